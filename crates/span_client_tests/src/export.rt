@@ -4,7 +4,9 @@ ghost use Rattle.span_dispatch.specs.Serve.{stack_of};
 use crate::fixture::in_use;
 use span_core::{Attributes, FieldSet, FieldValue, Id, Kind, Lane, Level, Metadata};
 use span_dispatch::Dispatch;
-use span_export::{Trace, chrome_text, folded_text, otlp_lines, timeline_svg};
+use span_export::{
+    Trace, TraceParent, chrome_lines, chrome_text, folded_text, otlp_lines, timeline_svg,
+};
 use span_layers::Observer;
 use span_registry::{Registry, Subscriber};
 use span_times::{
@@ -126,6 +128,34 @@ fn a_trace_for_perfetto(rt: HostRuntime) -> Result<(), Fail> {
     };
     let text = chrome_text(alloc, &points(), table)?;
     assert!(rt; text.as_str() == TRACE);
+    Ok(())
+}
+
+/// A trace of these events.
+fn joined(alloc: Global, events: &[String]) -> Result<String, Fail> {
+    let mut text = String::from_str(alloc, "{\"traceEvents\":[")?;
+    for (place, event) in events.iter().enumerate() {
+        if place > 0 {
+            text.push(',')?;
+        }
+        text.push_str(event.as_str())?;
+    }
+    text.push_str("]}")?;
+    Ok(text)
+}
+
+#[test]
+fn events_of_a_trace_that_grows(rt: HostRuntime) -> Result<(), Fail> {
+    let alloc = rt.alloc();
+    let (sites, fields) = (sites(alloc)?, fields(alloc)?);
+    let table = Table {
+        sites: &sites,
+        fields: &fields,
+    };
+    let events = chrome_lines(alloc, &points(), table, 1000)?;
+    assert!(rt; joined(alloc, &events)?.as_str() == TRACE);
+    let events = chrome_lines(alloc, &points()[..1], table, 0)?;
+    assert!(rt; events.len() == 2 && events[1].as_str().ends_with("\"ts\":1.0}"));
     Ok(())
 }
 
@@ -257,7 +287,7 @@ const INNER: &str = "{\"resourceSpans\":[{\
 \"events\":[{\"attributes\":[{\"key\":\"level\",\"value\":{\"stringValue\":\"WARN\"}},\
 {\"key\":\"left\",\"value\":{\"intValue\":\"-3\"}}],\
 \"name\":\"<said>\",\"timeUnixNano\":\"1700000000000005000\"}],\
-\"kind\":1,\"name\":\"inner\",\"parentSpanId\":\"0000000000000001\",\
+\"kind\":1,\"links\":[],\"name\":\"inner\",\"parentSpanId\":\"0000000000000001\",\
 \"spanId\":\"0000000000000002\",\"startTimeUnixNano\":\"1700000000000003000\",\"status\":{},\
 \"traceId\":\"000000000000000000000000000000ab\"}]}]}]}";
 
@@ -268,7 +298,7 @@ const OUTER: &str = "{\"resourceSpans\":[{\
 {\"key\":\"id\",\"value\":{\"intValue\":\"7\"}},\
 {\"key\":\"for\",\"value\":{\"stringValue\":\"a \\\"b\\\"\"}}],\
 \"endTimeUnixNano\":\"1700000000000011999\",\"events\":[],\
-\"kind\":1,\"name\":\"outer\",\"parentSpanId\":\"\",\
+\"kind\":1,\"links\":[],\"name\":\"outer\",\"parentSpanId\":\"\",\
 \"spanId\":\"0000000000000001\",\"startTimeUnixNano\":\"1700000000000001000\",\"status\":{},\
 \"traceId\":\"000000000000000000000000000000ab\"}]}]}]}";
 
@@ -278,6 +308,8 @@ fn trace_of_shop(alloc: Global) -> Result<Trace, Fail> {
         id: 0xab,
         service: String::from_str(alloc, "shop")?,
         began: 1_700_000_000_000_000_000,
+        parent: None,
+        attributes: Vec::new(alloc),
     })
 }
 
@@ -294,6 +326,81 @@ fn spans_for_opentelemetry(rt: HostRuntime) -> Result<(), Fail> {
     assert!(rt; lines.len() == 2, "the span of the other lane isn't closed");
     assert!(rt; lines[0].as_str() == INNER);
     assert!(rt; lines[1].as_str() == OUTER);
+    Ok(())
+}
+
+#[test]
+fn the_outermost_spans_are_below_the_parent(rt: HostRuntime) -> Result<(), Fail> {
+    let alloc = rt.alloc();
+    let sites = sites(alloc)?;
+    let parent = TraceParent {
+        trace: 0xab,
+        span: 0xf0,
+        flags: 1,
+    };
+    let trace = Trace::under(alloc, &parent, String::from_str(alloc, "shop")?, 0);
+    let lines = otlp_lines(alloc, &trace, &points(), names(&sites))?;
+    assert!(rt; lines.len() == 2);
+    assert!(rt;
+        lines[0]
+            .as_str()
+            .contains("\"parentSpanId\":\"0000000000000001\"")
+    );
+    assert!(rt;
+        lines[1]
+            .as_str()
+            .contains("\"parentSpanId\":\"00000000000000f0\"")
+    );
+    let id = "\"traceId\":\"000000000000000000000000000000ab\"";
+    assert!(rt; lines[1].as_str().contains(id));
+    Ok(())
+}
+
+const RESOURCE: &str = "{\"resourceSpans\":[{\"resource\":{\"attributes\":[\
+{\"key\":\"service.name\",\"value\":{\"stringValue\":\"shop\"}},\
+{\"key\":\"service.version\",\"value\":{\"stringValue\":\"1 \\\"b\\\"\"}},\
+{\"key\":\"host.name\",\"value\":{\"stringValue\":\"\"}}]},";
+
+#[test]
+fn the_resource_has_attributes(rt: HostRuntime) -> Result<(), Fail> {
+    let alloc = rt.alloc();
+    let sites = sites(alloc)?;
+    let mut trace = trace_of_shop(alloc)?;
+    let version = String::from_str(alloc, "service.version")?;
+    let text = String::from_str(alloc, "1 \"b\"")?;
+    trace.attributes.push((version, text))?;
+    let host = String::from_str(alloc, "host.name")?;
+    trace.attributes.push((host, String::new(alloc)))?;
+    let lines = otlp_lines(alloc, &trace, &points(), names(&sites))?;
+    assert!(rt; lines.len() == 2);
+    assert!(rt; lines[0].as_str().starts_with(RESOURCE));
+    assert!(rt; lines[1].as_str().starts_with(RESOURCE));
+    Ok(())
+}
+
+const LINKS: &str = "\"links\":[\
+{\"spanId\":\"0000000000000007\",\"traceId\":\"000000000000000000000000000000ab\"},\
+{\"spanId\":\"0000000000000001\",\"traceId\":\"000000000000000000000000000000ab\"}],";
+
+#[test]
+fn what_a_span_follows_from_is_a_link(rt: HostRuntime) -> Result<(), Fail> {
+    let alloc = rt.alloc();
+    let sites = sites(alloc)?;
+    let (first, second, other) = (Id::from_u64(1), Id::from_u64(2), Id::from_u64(7));
+    let points = [
+        at(0, 0, Happening::Opened(first, 1, None)),
+        at(1, 0, Happening::Followed(second, first)),
+        at(2, 0, Happening::Opened(second, 2, None)),
+        at(3, 0, Happening::Followed(second, other)),
+        at(4, 0, Happening::Followed(other, second)),
+        at(5, 0, Happening::Followed(second, first)),
+        at(6, 0, Happening::Closed(second)),
+        at(7, 0, Happening::Closed(first)),
+    ];
+    let lines = otlp_lines(alloc, &trace_of_shop(alloc)?, &points, names(&sites))?;
+    assert!(rt; lines.len() == 2);
+    assert!(rt; lines[0].as_str().contains(LINKS));
+    assert!(rt; lines[1].as_str().contains("\"links\":[],"));
     Ok(())
 }
 

@@ -31,3 +31,5 @@ mod run;
 mod script;
 #[cfg(test)]
 mod times;
+#[cfg(test)]
+mod trace_parent;

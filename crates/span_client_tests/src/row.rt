@@ -11,7 +11,7 @@ pub(crate) fn lines(alloc: Global, row: &str) -> Result<String, AllocError> {
 }
 
 /// Scripts and what they print.
-pub(crate) const ROWS: [(&str, &str); 23] = [
+pub(crate) const ROWS: [(&str, &str); 25] = [
     ("stack plain", "== base"),
     (
         "stack plain / new 0 2 p / new 0 3 c in p / drop 0 p / drop 0 c",
@@ -97,5 +97,13 @@ pub(crate) const ROWS: [(&str, &str); 23] = [
     (
         "stack veto / event 0 7 / level 0 info / event 0 7 / level 1 off / event 0 6",
         "ok / ok / ok / refused 10 / ok / == base / event 7 / event 7 / event 6 / == warn / event 7 / event 6",
+    ),
+    (
+        "stack directives / event 0 9 / targets 0 warn / event 0 7 / event 0 6 / targets 0 script=debug / event 0 8 / event 0 9 / level 0 off / event 0 5 / targets 1 warn / targets 0 off,[s2]=debug / event 0 7 / new 0 2 p / enter 0 p / event 0 8 / event 0 9",
+        "ok / ok / ok / ok / ok / ok / ok / ok / ok / refused 10 / ok / ok / p / ok / ok / ok / == base / event 9 / event 7 / event 6 / event 8 / event 9 / event 5 / event 7 / new p / enter p / event 8 / event 9 / == chosen / event 9 / event 6 / event 8 / new p / enter p / event 8",
+    ),
+    (
+        "stack pair / targets 0 warn / targets 1 warn / event 0 8",
+        "refused 10 / refused 10 / ok / == a / event 8 / == b",
     ),
 ];

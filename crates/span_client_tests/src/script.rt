@@ -3,6 +3,7 @@ use crate::row::lines;
 use span_core::{FieldValue, Lane, LevelFilter};
 use span_dispatch::{Request, Which};
 use span_script::{Reason, Script, ScriptFault, StackName, WrongLine};
+use span_targets::{Fault, WrongDirective};
 use std::alloc::Global;
 use std::process::Abort;
 use std::test::Fail;
@@ -107,7 +108,7 @@ fn wrong_lines(rt: HostRuntime) -> Result<(), Fail> {
 }
 
 /// Texts, the line and the column at which they are wrong, and why.
-const REASONS: [(&str, u64, usize, Reason); 28] = [
+const REASONS: [(&str, u64, usize, Reason); 35] = [
     ("", 1, 1, Reason::NoStack),
     ("\nnew 0 2 p", 2, 1, Reason::NoStack),
     ("stack pairs", 1, 7, Reason::UnknownStack),
@@ -166,6 +167,39 @@ const REASONS: [(&str, u64, usize, Reason); 28] = [
         9,
         Reason::DeclaredBefore,
     ),
+    ("stack plain\ntargets 0", 2, 11, Reason::TooFewWords),
+    ("stack plain\ntargets 0 ", 2, 11, Reason::EmptyWord),
+    (
+        "stack plain\ntargets 0 warn\r\n",
+        2,
+        15,
+        Reason::CarriageReturn,
+    ),
+    (
+        "stack plain\ntargets 0 warn, a=debug",
+        2,
+        17,
+        Reason::TooManyWords,
+    ),
+    ("stack plain\ntargets 10 warn", 2, 9, Reason::UnknownWord),
+    (
+        "stack plain\ntargets 0 a=b=c,d=e=f",
+        2,
+        11,
+        Reason::Directive(WrongDirective {
+            number: 1,
+            fault: Fault::TwoEquals,
+        }),
+    ),
+    (
+        "stack plain\ntargets 0 warn,app=loud",
+        2,
+        11,
+        Reason::Directive(WrongDirective {
+            number: 2,
+            fault: Fault::UnknownLevel,
+        }),
+    ),
 ];
 
 #[test]
@@ -196,10 +230,10 @@ fn texts_of_reasons(rt: HostRuntime) -> Result<(), Fail> {
 
 /// Every line of scripts, in every form.
 const EVERY_LINE: &str =
-    "stack nested / new 0 0 a / new 1 4 b root / new 2 1 c in a / new 9 3 d in ? / enter 0 a / exit 0 ? / record 3 b / follows 4 a ? / clone b / drop 5 b / event 0 5 / event 0 6 mute / event 0 7 root / event 0 8 root mute / event 0 9 in c / event 0 5 in ? mute / enabled 0 0 / enabled 0 9 / current 0 / level 0 off / level 9 trace";
+    "stack nested / new 0 0 a / new 1 4 b root / new 2 1 c in a / new 9 3 d in ? / enter 0 a / exit 0 ? / record 3 b / follows 4 a ? / clone b / drop 5 b / event 0 5 / event 0 6 mute / event 0 7 root / event 0 8 root mute / event 0 9 in c / event 0 5 in ? mute / enabled 0 0 / enabled 0 9 / current 0 / level 0 off / level 9 trace / targets 8 warn,app::db=debug,[s0]";
 
-/// How many events of these are muted. Their one clone is of the second span, and the levels of
-/// filters 0 and 9 are set.
+/// How many events of these are muted. Their one clone is of the second span, and filters 0 and 9
+/// are set to levels, 8 to directives.
 fn muted_events(rt: &impl Abort, requests: &[Request<'_>]) -> usize {
     let mut muted = 0usize;
     for request in requests {
@@ -209,13 +243,13 @@ fn muted_events(rt: &impl Abort, requests: &[Request<'_>]) -> usize {
                 assert!(rt; *which == Which::Made(1));
             }
             Request::Reload(number, setting) => {
-                let wanted = if *number == 0 {
-                    LevelFilter::OFF
-                } else {
-                    LevelFilter::TRACE
+                let wanted = match *number {
+                    0 => Some(LevelFilter::OFF),
+                    9 => Some(LevelFilter::TRACE),
+                    _ => None,
                 };
-                assert!(rt; setting.level() == Some(wanted));
-                assert!(rt; *number == 0 || *number == 9);
+                assert!(rt; setting.level() == wanted);
+                assert!(rt; *number == 0 || *number == 9 || *number == 8);
             }
             Request::Event {
                 values: [(name, value)],
@@ -236,8 +270,8 @@ fn every_line(rt: HostRuntime) -> Result<(), Fail> {
     let text = lines(rt.alloc(), EVERY_LINE)?;
     let script = Script::parse(rt.alloc(), text.as_str())?;
     assert!(rt; script.stack() == StackName::Nested);
-    assert!(rt; script.lines().len() == 21);
-    assert!(rt; script.requests().len() == 21);
+    assert!(rt; script.lines().len() == 22);
+    assert!(rt; script.requests().len() == 22);
     assert!(rt; muted_events(&rt, script.requests()) == 3);
     Ok(())
 }

@@ -158,7 +158,7 @@ point_flat table named es time p =
     joined_within 2 (map (change_event named time) (changes es p p.what)) (option_to_list (own_event (event_named table p) named p.lane.0 time p.what))
     (mapped_within 2 (change_event named time) (change_flat named time) (changes es p p.what)) (own_flat (event_named table p) named p.lane.0 time p.what)
 
-all_flat : (table : Table) (named : ℕ → Named) (begin : ℕ) (before ps : List Point)
+pub all_flat : (table : Table) (named : ℕ → Named) (begin : ℕ) (before ps : List Point)
     → items_depth (items_of (events_from table named begin before ps)) ≤ 2
 all_flat table named begin before [] = omega arith
 all_flat table named begin before (p ∷ ps) =

@@ -1,13 +1,17 @@
 mod AllTime
+mod BigEndian
 mod Boxes
 mod Depth
+mod Digits
 mod Ended
 mod Entries
+mod Events
 mod Joined
 mod Kept
 mod Names
 mod Nest
 mod Openings
+mod Parents
 mod Phases
 mod Put
 mod Replaced

@@ -1,5 +1,6 @@
 -- Requests to export spans: one by one, and how deep they nest.
-use Rattle.std.proofs.Common.{arith, ◌≡◌, ◌≤◌, ◌∙◌, ◌<◌, ◌+◌, ℕ, List, [], ◌∷◌, ◌++◌, Option, None, Some, ap, append_assoc, codes, drop, get_or, if◌then◌else◌}
+use Rattle.std.proofs.Common.{arith, ◌≡◌, ◌≤◌, ◌∙◌, ◌<◌, ◌+◌, ◌==◌, ℕ, List, [], ◌∷◌, ◌++◌, Option, None, Some, ap, append_assoc, codes, drop, get_or}
+use Rattle.std.proofs.Common.{if◌then◌else◌}
 use Rattle.std.proofs.Common.{length, map, refl, string_bytes, subst, sym, take, true, false, Bool, nat_lt, decimal, ◌^◌}
 use Rattle.std.specs.Float.{float_is_finite}
 use Rattle.std.specs.Fmt.{signed_decimal}
@@ -18,8 +19,10 @@ use Rattle.span_times.specs.declared.happening.Point.{Point}
 use Rattle.span_export.proofs.Depth.{IsWithin, items_within, joined_within, mapped_within, number_flat, object_within}
 use Rattle.span_export.proofs.Kept.{seen_one}
 use Rattle.span_export.specs.Json.{object_of, whole}
-use Rattle.span_export.specs.Otlp.{attribute_of, attributes_of, event_of, event_value, events_of, has_error, is_in, level_attribute, nanos, only}
-use Rattle.span_export.specs.Otlp.{request_at, request_of, request_value, requests_from, since_opening, span_head, span_value, status_value, text_attribute}
+use Rattle.span_export.specs.Otlp.{attribute_of, attributes_of, event_of, event_value, events_of, has_error, is_in, known_attribute, level_attribute, link_of}
+use Rattle.span_export.specs.Otlp.{link_value, links_of, nanos, only}
+use Rattle.span_export.specs.Otlp.{request_at, request_of, request_value, requests_from, resource_attributes, since_opening, span_head, span_id, span_value}
+use Rattle.span_export.specs.Otlp.{status_value, text_attribute, trace_id}
 use Rattle.span_export.specs.Site.{Named, called, event_named, is_given, leveled, targeted}
 use Rattle.span_export.specs.Value.{number_or, proto_name, typed, typed_data}
 use Rattle.span_export.specs.declared.otlp.Closed.{Closed as ClosedSpan}
@@ -112,28 +115,67 @@ status_depth : (failed : Bool) → depth (status_value failed) ≤ 1
 status_depth true = object_within 0 ((codes "code", whole 2) ∷ []) (omega arith, tt)
 status_depth false = omega arith
 
-span_depth : (trace : Trace) (name : Named) (span : ClosedSpan) (events : Data) (failed : Bool)
-    → depth events ≤ 5 → depth (span_value trace name span events failed) ≤ 6
-span_depth trace name span events failed h =
-    object_within 5 ((codes "status", status_value failed)
-    ∷ (codes "events", events) ∷ (codes "attributes", attributes_of name) ∷ (codes "name", string (called name)) ∷ span_head trace span) (
-      omega (arith, status_depth failed),
-      (h, (omega (arith, attributes_depth name), (omega arith, (omega arith, (omega arith, (omega arith, (omega arith, (omega arith, (omega arith, tt))))))))),
+link_depth : (trace : Trace) (from : Id) → depth (link_value trace from) ≤ 1
+link_depth trace from =
+    object_within 0 ((codes "traceId", string (trace_id trace)) ∷ (codes "spanId", string (span_id (Some (number_of from)))) ∷ [])
+    (omega arith, (omega arith, tt))
+
+link_within : (b : Bool) (trace : Trace) (from : Id) → IsWithin 1 (if b then Some (link_value trace from) else None)
+link_within true trace from = link_depth trace from
+link_within false trace from = tt
+
+one_link : (trace : Trace) (id : Id) (what : Happening) → IsWithin 1 (link_of trace id what)
+one_link trace id (Followed span from) = link_within (number_of span == number_of id) trace from
+one_link trace id (Sent callsite found) = tt
+one_link trace id (Entered x) = tt
+one_link trace id (Left x) = tt
+one_link trace id (Opened x callsite parent) = tt
+one_link trace id (Closed x) = tt
+one_link trace id (Recorded x) = tt
+one_link trace id (Renamed x other) = tt
+
+links_depth : (trace : Trace) (id : Id) (since : List Point) → depth (array (items_of (links_of trace id since))) ≤ 2
+links_depth trace id since = omega (arith, items_within 1 (λ p. link_of trace id p.what) (λ p. one_link trace id p.what) since)
+
+events_depth : (trace : Trace) (table : Table) (id : Id) (since : List Point) → depth (array (items_of (events_of trace table id since))) ≤ 5
+events_depth trace table id since =
+    omega (arith, items_within 4 (λ p. event_of trace table id p p.what) (λ p. one_event trace table id p p.what) since)
+
+span_depth : (trace : Trace) (table : Table) (name : Named) (span : ClosedSpan) (since : List Point) → depth (span_value trace table name span since) ≤ 6
+span_depth trace table name span since =
+    object_within 5 ((codes "status", status_value (has_error table.sites.now span.id since))
+    ∷ (codes "links", array (items_of (links_of trace span.id since))) ∷ (codes "events", array (items_of (events_of trace table span.id since)))
+    ∷ (codes "attributes", attributes_of name) ∷ (codes "name", string (called name)) ∷ span_head trace span) (
+      omega (arith, status_depth (has_error table.sites.now span.id since)),
+      (
+        omega (arith, links_depth trace span.id since),
+        (
+          events_depth trace table span.id since,
+          (omega (arith, attributes_depth name), (omega arith, (omega arith, (omega arith, (omega arith, (omega arith, (omega arith, (omega arith, tt)))))))),
+        ),
+      ),
     )
+
+resource_depth : (trace : Trace) → depth (array (items_of (resource_attributes trace))) ≤ 3
+resource_depth trace =
+    let service = text_attribute (codes "service.name") (string_bytes trace.service) in
+    let all = map known_attribute trace.attributes.items in
+    let first : items_depth (items_of (service ∷ [])) ≤ 2 = omega (arith, text_depth (codes "service.name") (string_bytes trace.service)) in
+    let rest : items_depth (items_of all) ≤ 2 =
+    mapped_within 2 known_attribute (λ a. text_depth (string_bytes a.0) (string_bytes a.1)) trace.attributes.items in
+    omega (arith, joined_within 2 (service ∷ []) all first rest)
 
 request_depth : (trace : Trace) (name : Named) (span : Data) → depth span ≤ 6 → depth (request_value trace name span) ≤ 127
 request_depth trace name span h =
     let target = object_of ((codes "name", string (targeted name)) ∷ []) in
     let spans = object_of ((codes "scope", target) ∷ (codes "spans", only span) ∷ []) in
-    let service = only (text_attribute (codes "service.name") (string_bytes trace.service)) in
-    let resource = object_of ((codes "attributes", service) ∷ []) in
+    let known = array (items_of (resource_attributes trace)) in
+    let resource = object_of ((codes "attributes", known) ∷ []) in
     let both = object_of ((codes "resource", resource) ∷ (codes "scopeSpans", only spans) ∷ []) in
     let one : depth target ≤ 1 = object_within 0 ((codes "name", string (targeted name)) ∷ []) (omega arith, tt) in
     let two : depth (only span) ≤ 7 = only_depth span 6 h in
     let three : depth spans ≤ 8 = object_within 7 ((codes "scope", target) ∷ (codes "spans", only span) ∷ []) (omega arith, (two, tt)) in
-    let four : depth service ≤ 3 =
-    only_depth (text_attribute (codes "service.name") (string_bytes trace.service)) 2 (text_depth (codes "service.name") (string_bytes trace.service)) in
-    let five : depth resource ≤ 4 = object_within 3 ((codes "attributes", service) ∷ []) (four, tt) in
+    let five : depth resource ≤ 4 = object_within 3 ((codes "attributes", known) ∷ []) (resource_depth trace, tt) in
     let six : depth (only spans) ≤ 9 = only_depth spans 8 three in
     let seven : depth both ≤ 10 = object_within 9 ((codes "resource", resource) ∷ (codes "scopeSpans", only spans) ∷ []) (omega arith, (six, tt)) in
     let eight : depth (only both) ≤ 11 = only_depth both 10 seven in
@@ -145,10 +187,7 @@ closed_depth : (trace : Trace) (table : Table) (name : Named) (id : Id) (close :
 closed_depth trace table name id close [] = tt
 closed_depth trace table name id close (opening ∷ since) =
     let span : ClosedSpan = record { id = id; opening = opening; close = close } in
-    let failed = has_error table.sites.now id since in
-    let events = items_within 4 (λ p. event_of trace table id p p.what) (λ p. one_event trace table id p p.what) since in
-    request_depth trace name (span_value trace name span (array (items_of (events_of trace table id since))) failed)
-    (span_depth trace name span (array (items_of (events_of trace table id since))) failed (omega (arith, events)))
+    request_depth trace name (span_value trace table name span since) (span_depth trace table name span since)
 
 point_depth : (trace : Trace) (table : Table) (named : ℕ → Named) (before : List Point) (p : Point) (what : Happening)
     → IsWithin 127 (request_at trace table named before p what)
@@ -172,7 +211,7 @@ requests_depth trace table named before (p ∷ rest) =
     one_more (request_at trace table named before p p.what) (requests_from trace table named (before ++ p ∷ []) rest)
     (point_depth trace table named before p p.what) (requests_depth trace table named (before ++ p ∷ []) rest)
 
-values_depth : (vs : List Value) → AllByRecursion (λ d. depth d ≤ 127) (map view vs) → AllByRecursion (λ v. depth (view v) ≤ max_depth) vs
+pub values_depth : (vs : List Value) → AllByRecursion (λ d. depth d ≤ 127) (map view vs) → AllByRecursion (λ v. depth (view v) ≤ max_depth) vs
 values_depth [] h = tt
 values_depth (v ∷ vs) h = (h.0, values_depth vs h.1)
 

@@ -25,7 +25,7 @@ use Rattle.span_times.specs.declared.kept.Table.{Table}
 abbrev pub begin_of : List Point → ℕ
 begin_of ps = option_map_or (λ p. p.time) (slice_get ps 0) 0
 
--- when a point is, in nanoseconds since its trace began
+-- when a point is, in nanoseconds since its trace began; a point before that is at 0
 abbrev pub time_in : ℕ → Point → ℕ
 time_in begin p = p.time - begin
 
@@ -150,9 +150,13 @@ events_from table named begin before (p ∷ rest) =
     ++ events_at table named (lasting before) (time_in begin p) p
     ++ events_from table named begin (before ++ p ∷ []) rest
 
--- the trace events of points, with this table
+-- the trace events of points, with this table, in a trace that began at this time
+abbrev pub events_since : Table → ℕ → List Point → List Data
+events_since table begin ps = events_from table (named_in table ps) begin [] ps
+
+-- the trace events of points, with this table, in a trace that begins with the first
 abbrev pub events_of : Table → List Point → List Data
-events_of table ps = events_from table (named_in table ps) (begin_of ps) [] ps
+events_of table ps = events_since table (begin_of ps) ps
 
 -- a trace of such events
 abbrev pub trace_with : Items → Data

@@ -11,4 +11,6 @@ pub mod Picture
 pub mod Scale
 pub mod Site
 pub mod Sums
+pub mod TraceParent
 pub mod Value
+pub mod private

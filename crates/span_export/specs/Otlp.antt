@@ -1,8 +1,9 @@
 -- Points as OpenTelemetry's spans, in its JSON.
-use Rattle.std.specs.Prelude.{◌≡◌, ◌+◌, ◌==◌, ◌&&◌, ℕ, Bool, false, if◌then◌else◌, List, [], ◌∷◌, ◌++◌, Option, None, Some, codes, decimal, filter_map, map, string_bytes}
+use Rattle.std.specs.Prelude.{◌≡◌, ◌+◌, ◌==◌, ◌&&◌, ℕ, Bool, false, if◌then◌else◌, List, [], ◌∷◌, ◌++◌, Option, None, Some, String, codes, decimal, filter_map, map, string_bytes}
 use Rattle.std.specs.Int.{to_be_bytes, w128, w64}
 use Rattle.std.specs.List.{cons_option, list_any}
 use Rattle.std.specs.Option.{option_map_or}
+use Rattle.std.specs.declared.alloc.Global.{Global}
 use Rattle.hex.specs.Hex.{encode_lower}
 use Rattle.serde_json.specs.Data.{Data, array, string}
 use Rattle.serde_json.specs.Read.{read}
@@ -12,7 +13,7 @@ use Rattle.span_core.specs.Span.{number_of}
 use Rattle.span_core.specs.declared.span.Id.{Id}
 use Rattle.span_times.specs.Field.{FieldSaid}
 use Rattle.span_times.specs.Measure.{capped, opens}
-use Rattle.span_times.specs.declared.happening.Happening.TheVariants.{Closed, Opened, Sent}
+use Rattle.span_times.specs.declared.happening.Happening.TheVariants.{Closed, Followed, Opened, Sent}
 use Rattle.span_times.specs.declared.happening.Happening.{Happening}
 use Rattle.span_times.specs.declared.happening.Point.{Point}
 use Rattle.span_times.specs.declared.kept.Table.{Table}
@@ -23,9 +24,13 @@ use Rattle.span_export.specs.Value.{typed_data}
 use Rattle.span_export.specs.declared.otlp.Closed.{Closed as ClosedSpan}
 use Rattle.span_export.specs.declared.otlp.Trace.{Trace}
 
+-- the number of a trace as 32 hex digits
+abbrev pub trace_id : Trace → List ℕ
+trace_id trace = encode_lower (to_be_bytes w128 trace.id)
+
 -- the number of a span as 16 hex digits, and none where there is no span
-abbrev pub span_id : Option Id → List ℕ
-span_id id = option_map_or (λ id. encode_lower (to_be_bytes w64 (number_of id))) id []
+abbrev pub span_id : Option ℕ → List ℕ
+span_id number = option_map_or (λ n. encode_lower (to_be_bytes w64 n)) number []
 
 -- an attribute whose value is a text
 abbrev pub text_attribute : List ℕ → List ℕ → Data
@@ -75,6 +80,22 @@ event_of trace table id p other = None
 abbrev pub events_of : Trace → Table → Id → List Point → List Data
 events_of trace table id since = filter_map (λ p. event_of trace table id p p.what) since
 
+-- a link to a span of this trace
+abbrev pub link_value : Trace → Id → Data
+link_value trace from =
+    object_of ((codes "traceId", string (trace_id trace))
+    ∷ (codes "spanId", string (span_id (Some (number_of from)))) ∷ [])
+
+-- the link of what happened, if this span follows from another by it
+abbrev pub link_of : Trace → Id → Happening → Option Data
+link_of trace id (Followed span from) =
+    if number_of span == number_of id then Some (link_value trace from) else None
+link_of trace id other = None
+
+-- the links of a span among these points, to the spans that it follows from
+abbrev pub links_of : Trace → Id → List Point → List Data
+links_of trace id since = filter_map (λ p. link_of trace id p.what) since
+
 -- a site has the level ERROR
 abbrev pub is_of_errors : Option Site → Bool
 is_of_errors site = option_map_or (λ s. level_number s.level == 1) site false
@@ -93,34 +114,46 @@ has_error sites id ps = list_any (λ p. is_failure sites id p.what) ps
 abbrev pub status_value : Bool → Data
 status_value failed = object_of (if failed then ((codes "code", whole 2) ∷ []) else [])
 
--- the parent of a span that is opened so
-abbrev pub parent_of : Happening → Option Id
-parent_of (Opened id callsite parent) = parent
-parent_of other = None
+-- the number of the parent of a span that is opened so: the trace's where the points have none
+abbrev pub parent_of : Trace → Happening → Option ℕ
+parent_of trace (Opened id callsite (Some parent)) = Some (number_of parent)
+parent_of trace other = trace.parent
 
 -- which span it is, and when it opened and closed
 abbrev pub span_head : Trace → ClosedSpan → List (List ℕ × Data)
 span_head trace span =
-    (codes "traceId", string (encode_lower (to_be_bytes w128 trace.id)))
-    ∷ (codes "spanId", string (span_id (Some span.id)))
-    ∷ (codes "parentSpanId", string (span_id (parent_of span.opening.what)))
+    (codes "traceId", string (trace_id trace))
+    ∷ (codes "spanId", string (span_id (Some (number_of span.id))))
+    ∷ (codes "parentSpanId", string (span_id (parent_of trace span.opening.what)))
     ∷ (codes "kind", whole 1) ∷ (codes "startTimeUnixNano", nanos trace span.opening.time)
     ∷ (codes "endTimeUnixNano", nanos trace span.close.time) ∷ []
 
--- a span that closed, with these events, in which one of level ERROR came or none did
-abbrev pub span_value : Trace → Named → ClosedSpan → Data → Bool → Data
-span_value trace site span events failed =
-    object_of ((codes "status", status_value failed) ∷ (codes "events", events)
+-- a span that closed, of which these are the points since its opening
+abbrev pub span_value : Trace → Table → Named → ClosedSpan → List Point → Data
+span_value trace table site span since =
+    object_of ((codes "status", status_value (has_error table.sites.now span.id since))
+    ∷ (codes "links", array (items_of (links_of trace span.id since)))
+    ∷ (codes "events", array (items_of (events_of trace table span.id since)))
     ∷ (codes "attributes", attributes_of site) ∷ (codes "name", string (called site))
     ∷ span_head trace span)
+
+-- a key and a text as an attribute
+abbrev pub known_attribute : String Global × String Global → Data
+known_attribute a = text_attribute (string_bytes a.0) (string_bytes a.1)
+
+-- what is known of the service: its name, and the attributes of the trace
+abbrev pub resource_attributes : Trace → List Data
+resource_attributes trace =
+    text_attribute (codes "service.name") (string_bytes trace.service)
+    ∷ map known_attribute trace.attributes.items
 
 -- a request to export one span, by the service and the target that it is of
 abbrev pub request_value : Trace → Named → Data → Data
 request_value trace site span =
     let scope = object_of ((codes "name", string (targeted site)) ∷ []) in
     let spans = object_of ((codes "scope", scope) ∷ (codes "spans", only span) ∷ []) in
-    let service = only (text_attribute (codes "service.name") (string_bytes trace.service)) in
-    let resource = object_of ((codes "attributes", service) ∷ []) in
+    let known = array (items_of (resource_attributes trace)) in
+    let resource = object_of ((codes "attributes", known) ∷ []) in
     object_of ((
       codes "resourceSpans",
       only (object_of ((codes "resource", resource)
@@ -143,9 +176,7 @@ abbrev pub request_of : Trace → Table → Named → Id → Point → List Poin
 request_of trace table site id close [] = None
 request_of trace table site id close (opening ∷ since) =
     let span : ClosedSpan = record { id = id; opening = opening; close = close } in
-    Some (request_value trace site
-    (span_value trace site span (array (items_of (events_of trace table id since)))
-    (has_error table.sites.now id since)))
+    Some (request_value trace site (span_value trace table site span since))
 
 -- the request of a point behind these, if a span closes there, by what spans are called
 abbrev pub request_at : Trace → Table → (ℕ → Named) → List Point → Point → Happening

@@ -7,15 +7,17 @@ ghost use Rattle.std.specs.Prelude.{◌≡◌, ◌++◌, ◌==◌, ◌||◌, [],
 ghost use Rattle.serde_json.specs.Data.{string};
 ghost use Rattle.serde_json.specs.View.{items_view, view};
 ghost use Rattle.span_core.specs.Span.{number_of};
-ghost use Rattle.span_export.specs.Chrome.{args_of, begin_event, begin_of, change_event, changes, closed_on, end_event, events_at, events_of, instant, lane_named, lanes_in, micros, naming, own_event, redrawn, trace_of, trace_with};
+ghost use Rattle.span_export.specs.Chrome.{args_of, begin_event, begin_of, change_event, changes, closed_on, end_event, events_at, events_since, instant, lane_named, lanes_in, micros, naming, own_event, redrawn, trace_of, trace_with};
 ghost use Rattle.span_export.specs.Chrome.Change.{Begins, Ends};
-ghost use Rattle.span_export.specs.Json.{Means};
+ghost use Rattle.span_export.specs.Json.{AreCompact, Means};
 ghost use Rattle.span_export.specs.Entry.{is_of, spans_on};
 ghost use Rattle.span_export.specs.Moment.{names};
+ghost use Rattle.span_export.specs.Otlp.{AllMean};
 ghost use Rattle.span_export.specs.Site.{event_named, given_said, named_so};
 
 use crate::entry::{Entry, go_on, since_newest, since_oldest, spans_on};
 use crate::given::latest_given;
+use crate::otlp::lines_of;
 use crate::site::{Name, Spans, find_site};
 use crate::value::value_of;
 use serde_json::{Map, Value, json, put};
@@ -48,9 +50,30 @@ pub fn chrome_text(alloc: Global, points: &[Point], table: Table<'_>) -> Result<
     ensures { IfOk result
         (λ text. Means (string_bytes text) (trace_of table.entry points.now)) }
 {
-    let events = trace_events(alloc, points, table)?;
+    let events = trace_events(alloc, points, table, begin_of(points))?;
     let trace = trace_value(alloc, events)?;
     trace.to_string(alloc)
+}
+
+/// The trace events of these points as `chrome_text` has them, each a text in JSON. The trace began
+/// when the points' clock showed `begin`, in nanoseconds; what came before that is at 0.
+///
+/// They are for a file that grows while a program runs: it begins with `[`, each event has a comma
+/// behind it, and viewers take it without an end, even from a program that was killed. Hand over
+/// batches of what has closed, as `Timeline::take_finished` gives them. Each batch names its lanes,
+/// and within a batch each end is that of its lane's newest box.
+pub fn chrome_lines(
+    alloc: Global,
+    points: &[Point],
+    table: Table<'_>,
+    begin: u64,
+) -> Result<Vec<String>, AllocError>
+    ensures mean { IfOk result (λ lines. AllMean (map string_bytes lines.items)
+        (events_since table.entry begin points.now)) }
+    ensures compact { IfOk result (λ lines. AreCompact (map string_bytes lines.items)) }
+{
+    let events = trace_events(alloc, points, table, begin)?;
+    lines_of(alloc, &events)
 }
 
 /// A trace of these events.
@@ -60,13 +83,17 @@ fn trace_value(alloc: Global, events: Vec<Value>) -> Result<Value, AllocError>
     json!(in alloc; {"traceEvents": Value::Array(events)})
 }
 
-/// The trace events of points, in their order.
-fn trace_events(alloc: Global, points: &[Point], table: Table<'_>) -> Result<Vec<Value>, AllocError>
+/// The trace events of points, in their order, in a trace that began at this time.
+fn trace_events(
+    alloc: Global,
+    points: &[Point],
+    table: Table<'_>,
+    begin: u64,
+) -> Result<Vec<Value>, AllocError>
     ensures { IfOk result
-        (λ events. map view events.items ≡ events_of table.entry points.now) }
+        (λ events. map view events.items ≡ events_since table.entry begin points.now) }
 {
     let spans = Spans::of(alloc, points, table)?;
-    let begin = begin_of(points);
     let mut events = Vec::new(alloc);
     let mut entries = Vec::new(alloc);
     let mut known = BTreeSet::new(alloc);

@@ -16,9 +16,11 @@ mod otlp;
 mod picture;
 mod site;
 mod stay;
+mod trace_parent;
 mod value;
 
-pub use chrome::chrome_text;
+pub use chrome::{chrome_lines, chrome_text};
 pub use folded::folded_text;
 pub use otlp::{Trace, otlp_lines};
 pub use picture::timeline_svg;
+pub use trace_parent::{TraceParent, WrongTraceParent};

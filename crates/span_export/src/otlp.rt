@@ -2,19 +2,20 @@
 ghost use Rattle.std.specs.Int.{to_be_bytes, w128};
 ghost use Rattle.std.specs.List.{AllByRecursion};
 ghost use Rattle.std.specs.Option.{option_copied, option_map};
-ghost use Rattle.std.specs.Prelude.{◌≡◌, ◌≤◌, ◌++◌, [], IfOk, OnOk, map, string_bytes};
+ghost use Rattle.std.specs.Prelude.{◌≡◌, ◌≤◌, ◌++◌, [], IfOk, OnOk, Some, map, string_bytes};
 ghost use Rattle.hex.specs.Hex.{encode_lower};
 ghost use Rattle.serde_json.specs.Data.{depth, string};
 ghost use Rattle.serde_json.specs.Read.{max_depth};
 ghost use Rattle.serde_json.specs.View.{items_view, members_view, view};
 ghost use Rattle.span_core.specs.Span.{number_of};
 ghost use Rattle.span_export.specs.Json.{AreCompact, members};
-ghost use Rattle.span_export.specs.Otlp.{AllMean, attribute_of, attributes_of, event_of, event_value, events_of, has_error, is_failure, is_of_errors, level_attribute, nanos, parent_of, request_at, request_value, requests_from, requests_of, since_opening, span_head, span_id, span_value, status_value, text_attribute};
+ghost use Rattle.span_export.specs.Otlp.{AllMean, attribute_of, attributes_of, event_of, event_value, events_of, has_error, is_failure, is_of_errors, known_attribute, level_attribute, link_of, link_value, links_of, nanos, parent_of, request_at, request_value, requests_from, requests_of, resource_attributes, since_opening, span_head, span_id, span_value, status_value, text_attribute};
 ghost use Rattle.span_export.specs.Site.{event_named, given_said, named_by, named_so};
 ghost use Rattle.span_times.specs.Field.{field_said};
 
 use crate::given::{is_given, latest_given};
 use crate::site::{Name, Spans, find_site};
+use crate::trace_parent::TraceParent;
 use crate::value::typed_value;
 use serde_json::{Map, Value, json, put};
 use span_core::{Id, Level};
@@ -30,6 +31,29 @@ pub struct Trace {
     pub service: String,
     /// When the clock of the points was at 0, in nanoseconds since 1970.
     pub began: u64,
+    /// The number of the span of another program below which the outermost spans are, if any is.
+    pub parent: Option<u64>,
+    /// What else is known of the service, as keys and texts: each key once, and no `service.name`.
+    pub attributes: Vec<(String, String)>,
+}
+
+impl Trace {
+    /// A trace that goes on here below a span of another program, without attributes.
+    pub fn under(alloc: Global, parent: &TraceParent, service: String, began: u64) -> Trace
+        ensures id { result.id ≡ parent.now.trace }
+        ensures parent { result.parent ≡ Some parent.now.span }
+        ensures service { result.service ≡ service }
+        ensures began { result.began ≡ began }
+        ensures attributes { result.attributes.items ≡ [] }
+    {
+        Trace {
+            id: parent.trace,
+            service,
+            began,
+            parent: Some(parent.span),
+            attributes: Vec::new(alloc),
+        }
+    }
 }
 
 /// The spans that closed among these points, for OpenTelemetry: for each a line that is a request
@@ -37,10 +61,11 @@ pub struct Trace {
 /// points is left out.
 ///
 /// A span has the parent and the events that the timeline found: where it stands under a filter,
-/// the nearest span above that this let by. The events are those behind the opening, so hand over
-/// all points since then. What a span or an event was given are its attributes, and so is its level
-/// unless a field is called `level`; of two fields of one name the later one. A span in which an
-/// event of level ERROR came has the status of an error.
+/// the nearest span above that this let by; a span without one has the trace's. Each span that it
+/// follows from is a link. Events and links are those behind the opening, so hand over all points
+/// since then. What a span or an event was given are its attributes, and so is its level unless a
+/// field is called `level`; of two fields of one name the later one. A span in which an event of
+/// level ERROR came has the status of an error.
 pub fn otlp_lines(
     alloc: Global,
     trace: &Trace,
@@ -57,7 +82,7 @@ pub fn otlp_lines(
 }
 
 /// A line for each value.
-fn lines_of(alloc: Global, values: &[Value]) -> Result<Vec<String>, AllocError>
+pub(crate) fn lines_of(alloc: Global, values: &[Value]) -> Result<Vec<String>, AllocError>
     requires { AllByRecursion (λ v. depth (view v) ≤ max_depth) values.now }
     ensures mean { IfOk result
         (λ lines. AllMean (map string_bytes lines.items) (map view values.now)) }
@@ -115,15 +140,7 @@ fn request(
         opening: *opening,
         close: *point,
     };
-    let events = Value::Array(events(alloc, trace, table, id, since)?);
-    let span = span(
-        alloc,
-        trace,
-        name,
-        closed,
-        events,
-        has_error(table.sites, since, id),
-    )?;
+    let span = span(alloc, trace, table, name, closed, since)?;
     Ok(Some(request_for(alloc, trace, name, span)?))
 }
 
@@ -149,13 +166,38 @@ fn request_for(
     ensures { IfOk result (λ request. view request
         ≡ request_value trace.now (named_so name.entry) (view span)) }
 {
-    let service = text_attribute(alloc, "service.name", trace.service.as_str())?;
+    let attributes = Value::Array(resource_attributes(alloc, trace)?);
     json!(in alloc; {
         "resourceSpans": [{
-            "resource": {"attributes": [service]},
+            "resource": {"attributes": attributes},
             "scopeSpans": [{"scope": {"name": name.target()}, "spans": [span]}]
         }]
     })
+}
+
+/// What is known of the service: its name, and the attributes of the trace.
+fn resource_attributes(alloc: Global, trace: &Trace) -> Result<Vec<Value>, AllocError>
+    ensures { IfOk result (λ pairs. map view pairs.items ≡ resource_attributes trace.now) }
+{
+    let mut pairs = Vec::new(alloc);
+    pairs.push(text_attribute(alloc, "service.name", trace.service.as_str())?)?;
+    write_known(alloc, &mut pairs, &trace.attributes)?;
+    Ok(pairs)
+}
+
+/// Writes keys and texts as attributes behind these.
+fn write_known(
+    alloc: Global,
+    pairs: &mut Vec<Value>,
+    known: &[(String, String)],
+) -> Result<(), AllocError>
+    ensures { OnOk result (map view pairs.new.items
+        ≡ map view pairs.old.items ++ map known_attribute known.now) }
+{
+    for item in known {
+        pairs.push(text_attribute(alloc, item.0.as_str(), item.1.as_str())?)?;
+    }
+    Ok(())
 }
 
 /// A span that closed.
@@ -166,23 +208,27 @@ pub(crate) struct Closed {
     close: Point,
 }
 
-/// A span with these events, in which one of level ERROR came or none did.
+/// A span, of which these are the points since its opening.
 fn span(
     alloc: Global,
     trace: &Trace,
+    table: Table<'_>,
     name: Name<'_>,
     closed: Closed,
-    events: Value,
-    failed: bool,
+    since: &[Point],
 ) -> Result<Value, AllocError>
-    ensures { IfOk result (λ span. view span ≡ span_value trace.now (named_so name.entry) closed
-        (view events) failed) }
+    ensures { IfOk result (λ span. view span ≡ span_value trace.now table.entry
+        (named_so name.entry) closed since.now) }
 {
     let mut members = span_head(alloc, trace, closed)?;
     let text = Value::try_from_str(alloc, name.name())?;
     put(&mut members, alloc, "name", text)?;
     put(&mut members, alloc, "attributes", attributes(alloc, name)?)?;
+    let events = Value::Array(events(alloc, trace, table, closed.id, since)?);
     put(&mut members, alloc, "events", events)?;
+    let links = Value::Array(links(alloc, trace, closed.id, since)?);
+    put(&mut members, alloc, "links", links)?;
+    let failed = has_error(table.sites, since, closed.id);
     put(&mut members, alloc, "status", status(alloc, failed)?)?;
     Ok(Value::Object(members))
 }
@@ -198,9 +244,10 @@ fn span_head(alloc: Global, trace: &Trace, closed: Closed) -> Result<Map<String,
     let start = nanos(alloc, trace, closed.opening.time)?;
     put(&mut head, alloc, "startTimeUnixNano", start)?;
     put(&mut head, alloc, "kind", Value::from(1u64))?;
-    let parent = span_id(alloc, parent_of(closed.opening.what))?;
+    let parent = span_id(alloc, parent_of(trace, closed.opening.what))?;
     put(&mut head, alloc, "parentSpanId", parent)?;
-    put(&mut head, alloc, "spanId", span_id(alloc, Some(closed.id))?)?;
+    let id = span_id(alloc, Some(closed.id.into_u64()))?;
+    put(&mut head, alloc, "spanId", id)?;
     put(&mut head, alloc, "traceId", trace_id(alloc, trace)?)?;
     Ok(head)
 }
@@ -245,14 +292,52 @@ fn is_of_errors(site: Option<&Site>) -> bool
     }
 }
 
-/// The parent of a span that is opened so.
-fn parent_of(what: Happening) -> Option<Id>
-    ensures { result ≡ parent_of what }
+/// The number of the parent of a span that is opened so: the trace's where the points have none.
+fn parent_of(trace: &Trace, what: Happening) -> Option<u64>
+    ensures { result ≡ parent_of trace.now what }
 {
     match what {
-        Happening::Opened(_, _, parent) => parent,
-        _ => None,
+        Happening::Opened(_, _, Some(parent)) => Some(parent.into_u64()),
+        _ => trace.parent,
     }
+}
+
+/// The links of a span among these points, to the spans that it follows from.
+fn links(alloc: Global, trace: &Trace, id: Id, since: &[Point]) -> Result<Vec<Value>, AllocError>
+    ensures { IfOk result (λ links. map view links.items ≡ links_of trace.now id since.now) }
+{
+    let mut links = Vec::new(alloc);
+    for point in since {
+        if let Some(link) = link_of(alloc, trace, id, point.what)? {
+            links.push(link)?;
+        }
+    }
+    Ok(links)
+}
+
+/// The link of what happened, if this span follows from another by it.
+fn link_of(
+    alloc: Global,
+    trace: &Trace,
+    id: Id,
+    what: Happening,
+) -> Result<Option<Value>, AllocError>
+    ensures { IfOk result (λ link. option_map view link ≡ link_of trace.now id what) }
+{
+    match what {
+        Happening::Followed(span, from) if span == id => Ok(Some(link(alloc, trace, from)?)),
+        _ => Ok(None),
+    }
+}
+
+/// A link to a span of this trace.
+fn link(alloc: Global, trace: &Trace, from: Id) -> Result<Value, AllocError>
+    ensures { IfOk result (λ link. view link ≡ link_value trace.now from) }
+{
+    json!(in alloc; {
+        "traceId": trace_id(alloc, trace)?,
+        "spanId": span_id(alloc, Some(from.into_u64()))?
+    })
 }
 
 /// The events of a span among these points.
@@ -375,11 +460,11 @@ fn trace_id(alloc: Global, trace: &Trace) -> Result<Value, AllocError>
 }
 
 /// The number of a span as 16 hex digits, and none where there is no span.
-fn span_id(alloc: Global, id: Option<Id>) -> Result<Value, AllocError>
-    ensures { IfOk result (λ text. view text ≡ string (span_id id)) }
+fn span_id(alloc: Global, number: Option<u64>) -> Result<Value, AllocError>
+    ensures { IfOk result (λ text. view text ≡ string (span_id number)) }
 {
-    let text = match id {
-        Some(id) => hex::encode(alloc, id.into_u64().to_be_bytes())?,
+    let text = match number {
+        Some(number) => hex::encode(alloc, number.to_be_bytes())?,
         None => String::new(alloc),
     };
     Ok(Value::String(text))

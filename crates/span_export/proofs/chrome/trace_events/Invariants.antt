@@ -2,7 +2,7 @@ use Rattle.std.proofs.Common.{◌≡◌, ◌++◌, ℕ, drop, map, take}
 use Rattle.std.specs.BTreeSet.{contains}
 use Rattle.std.specs.Ordering.{nat_cmp}
 use Rattle.serde_json.specs.View.{view}
-use Rattle.span_export.specs.Chrome.{begin_of, events_from, events_of, is_known}
+use Rattle.span_export.specs.Chrome.{events_from, events_since, is_known}
 use Rattle.span_export.specs.Entry.{lasting}
 use Rattle.span_export.specs.Site.{named_in}
 use Rattle.span_export.proofs.chrome.trace_events.Given as goal
@@ -13,6 +13,6 @@ invariant-loop-point l = record {
   entries : l.entries.items ≡ lasting (take l.point-index l.points);
   known : (lane : ℕ) → contains nat_cmp l.known lane ≡ is_known (take l.point-index l.points) lane;
   events : map view l.events.items
-      ++ events_from l.table (named_in l.table l.points) (begin_of l.points) (take l.point-index l.points) (drop l.point-index l.points)
-      ≡ events_of l.table l.points;
+      ++ events_from l.table (named_in l.table l.points) l.begin (take l.point-index l.points) (drop l.point-index l.points)
+      ≡ events_since l.table l.begin l.points;
 }
