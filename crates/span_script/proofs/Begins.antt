@@ -6,6 +6,7 @@ use Rattle.span_core.specs.declared.level.TheConstants.LevelFilter.{INFO, TRACE,
 use Rattle.span_dispatch.specs.Recorder.{RecorderState, new_recorder}
 use Rattle.span_filters.specs.Filter.{settled_answers}
 use Rattle.span_filters.specs.Level.{level_answers}
+use Rattle.span_filters.specs.Setting.{setting_answers}
 use Rattle.span_stacks.specs.Filtered.{FilteredForm, IsNumber, IsUnnumbered, filter_of, id_of, layer_of}
 use Rattle.span_layers.specs.Parts.{PartsForm}
 use Rattle.span_stacks.specs.Layered.{inner_of, outer_of, with_inner}
@@ -16,9 +17,11 @@ use Rattle.span_store.specs.Store.{RegistryState, new_registry}
 use Rattle.span_store.specs.declared.limits.Limits.{Limits}
 use Rattle.span_registry.specs.Form.{Filtered, Form, InPair, Parts}
 use Rattle.span_script.specs.Mute.{mute_answers}
-use Rattle.span_script.specs.Stacks.{BeginsAbsent, BeginsNested, BeginsPair, BeginsPlain, BeginsUnder, BeginsWarned, HasRoom, leaf}
+use Rattle.span_script.specs.Stacks.{BeginsAbsent, BeginsDirectives, BeginsNested, BeginsPair, BeginsPlain, BeginsUnder, BeginsWarned, HasRoom, leaf}
 use Rattle.span_script.specs.declared.mute.Mute.{Mute}
 use Rattle.span_script.specs.declared.mute_veto.MuteVeto.{MuteVeto}
+use Rattle.span_targets.specs.declared.setting.Setting.{Setting}
+use Rattle.span_targets.specs.declared.setting.Setting.TheVariants.{Level}
 
 abbrev pub Levelled : Type 0
 Levelled = FilteredLayer RecorderState LevelFilter
@@ -31,6 +34,15 @@ VetoStack = Layered LevelFilter (Layered MuteVeto Warned)
 
 abbrev pub AbsentStack : Type 0
 AbsentStack = Layered RecorderState (Layered (Option RecorderState) RegistryState)
+
+abbrev pub Directed : Type 0
+Directed = FilteredLayer RecorderState Setting
+
+abbrev pub DirectivesStack : Type 0
+DirectivesStack = Layered Directed (Layered RecorderState RegistryState)
+
+abbrev pub UnderSetting : Directed → Form → Type 0
+UnderSetting x = FilteredForm (id_of x) (settled_answers setting_answers (filter_of x)) (λ f. f ≡ leaf)
 
 abbrev pub UnderLevel : Levelled → Form → Type 0
 UnderLevel x = FilteredForm (id_of x) (settled_answers level_answers (filter_of x)) (λ f. f ≡ leaf)
@@ -54,6 +66,9 @@ as_before registry with_registry own s t alone same = alone ∙ (λ i. with_regi
 abbrev level_form : LevelFilter → Form
 level_form level = Filtered None (level_answers level) leaf
 
+abbrev setting_form : Form
+setting_form = Filtered None (setting_answers (Level TRACE)) leaf
+
 abbrev pair_form : Form
 pair_form = Parts InPair (level_form INFO) (level_form TRACE)
 
@@ -63,9 +78,9 @@ mute_form = Filtered None mute_answers (level_form INFO)
 under_level : (u : Levelled) (layer : RecorderState) (level : LevelFilter) → IsUnnumbered u layer level → UnderLevel u (level_form level)
 under_level u layer level h = (h.id, ap level_answers (sym h.own), refl)
 
-begins_under : (u x : Levelled) (layer : RecorderState) (level : LevelFilter) (n : ℕ) → IsUnnumbered u layer level
-    → layer ≡ new_recorder → (filter_of x ≡ filter_of u) × (layer_of x ≡ layer_of u) → IsNumber (id_of x) (Some n) → BeginsUnder n level x
-begins_under u x layer level n h begins attached number = record { number = number; level = attached.0 ∙ h.own; recorder = attached.1 ∙ h.inner ∙ begins }
+begins_under : {F : Type 0} (u x : FilteredLayer RecorderState F) (layer : RecorderState) (own : F) (n : ℕ) → IsUnnumbered u layer own
+    → layer ≡ new_recorder → (filter_of x ≡ filter_of u) × (layer_of x ≡ layer_of u) → IsNumber (id_of x) (Some n) → BeginsUnder n own x
+begins_under u x layer own n h begins attached number = record { number = number; filter = attached.0 ∙ h.own; recorder = attached.1 ∙ h.inner ∙ begins }
 
 -- so many filters were handed out, and these leave room for so many more
 pub room_after : {n taken : ℕ} (more : ℕ) → n ≡ taken → taken + more ≤ LIMIT → n + more ≤ LIMIT
@@ -165,6 +180,33 @@ one_number w begun = ap (λ (r : RegistryState). r.filters) begun.registry
 
 pub few_filters : {limits : Limits} (w : Warned) → BeginsWarned limits w → (inner_of (inner_of w)).filters ≤ LIMIT
 few_filters w begun = subst (λ k. k ≤ LIMIT) (sym (one_number w begun)) (omega (arith))
+
+-- ---- directives
+
+module _ {limits : Limits} (u : Directed) (chosen : RecorderState)
+    (s : Layered RecorderState RegistryState) (begun : BeginsPlain limits s) (outside : IsUnnumbered u chosen (Level TRACE)) where
+  setting_has : UnderSetting u setting_form
+  setting_has = (outside.id, ap setting_answers (sym outside.own), refl)
+
+  pub directives_has_room : HasRoom (λ (r : Layered RecorderState RegistryState). inner_of r) UnderSetting u s
+  directives_has_room = record { form = setting_form; has = setting_has; room = room_after 1 (none_yet s begun) (omega (arith)) }
+
+  pub begins_directives : (x : DirectivesStack)
+      → chosen ≡ new_recorder → inner_of x ≡ record s { inner = record (inner_of s) { filters = (inner_of (inner_of x)).filters } }
+      → ((f : Form) → UnderSetting u f → UnderSetting (outer_of x) (numbered f (inner_of s).filters).0)
+      → ((f : Form) → UnderSetting u f → (inner_of (inner_of x)).filters ≡ (numbered f (inner_of s).filters).1)
+      → (filter_of (outer_of x) ≡ filter_of u) × (layer_of (outer_of x) ≡ layer_of u) → BeginsDirectives limits x
+  begins_directives x chosen_new alone form next attached =
+      let has : UnderSetting (outer_of x) (numbered setting_form 0).0 =
+      subst (λ n. UnderSetting (outer_of x) (numbered setting_form n).0) (none_yet s begun) (form setting_form setting_has) in
+      let one : (inner_of (inner_of x)).filters ≡ (numbered setting_form 0).1 =
+      next setting_form setting_has ∙ ap (λ n. (numbered setting_form n).1) (none_yet s begun) in
+      record {
+        base = ap (λ (r : Layered RecorderState RegistryState). outer_of r) alone ∙ begun.base;
+        chosen = begins_under u (outer_of x) chosen (Level TRACE) 0 outside chosen_new attached has.0;
+        registry = registry_then (inner_of s)
+            (new_registry limits) (inner_of (inner_of x)) 1 begun.registry (ap (λ (r : Layered RecorderState RegistryState). inner_of r) alone) one;
+      }
 
 -- ---- absent
 

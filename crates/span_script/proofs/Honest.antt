@@ -7,7 +7,9 @@ use Rattle.span_core.specs.declared.level.TheConstants.LevelFilter.{INFO, TRACE,
 use Rattle.span_dispatch.specs.Recorder.{RecorderState}
 use Rattle.span_filters.specs.Filter.{unreloaded}
 use Rattle.span_filters.specs.Level.{level_answers, level_taken}
+use Rattle.span_filters.specs.Setting.{setting_answers, setting_taken}
 use Rattle.span_filters.specs.laws.Level.{level_honest}
+use Rattle.span_filters.specs.laws.Setting.{setting_honest}
 use Rattle.span_stacks.specs.Filtered.{IsNumber, filter_of, id_of, layer_of}
 use Rattle.span_stacks.specs.Honest.{IsBuiltLayer, IsHonestStack}
 use Rattle.span_stacks.specs.Layered.{inner_of, outer_of}
@@ -20,14 +22,15 @@ use Rattle.span_store.specs.Store.{RegistryState}
 use Rattle.span_store.specs.declared.limits.Limits.{Limits}
 use Rattle.span_registry.specs.KeptForm.{RefusesNothing}
 use Rattle.span_registry.specs.Form.{Terminal, Base, Filtered, Form, InPair, Leaf, OnSubscriber}
-use Rattle.span_script.proofs.Begins.{AbsentStack, Levelled, VetoStack, Warned}
-use Rattle.span_script.proofs.Steady.{IsByLevel, StayBoth, StaysAbsent, StaysBase, StaysLeaf, StaysUnder, StaysVeto, still_absent}
+use Rattle.span_script.proofs.Begins.{AbsentStack, Directed, DirectivesStack, Levelled, VetoStack, Warned}
+use Rattle.span_script.proofs.Steady.{IsBySetting, StayBoth, StaysAbsent, StaysBase, StaysLeaf, StaysUnder, StaysVeto, still_absent}
 use Rattle.span_script.specs.Mute.{mute_answers}
 use Rattle.span_script.specs.laws.Mute.{mute_honest}
-use Rattle.span_script.specs.Stacks.{BeginsAbsent, BeginsNested, BeginsPair, BeginsUnder, BeginsVeto, BeginsWarned, form_of, leaf}
+use Rattle.span_script.specs.Stacks.{BeginsAbsent, BeginsDirectives, BeginsNested, BeginsPair, BeginsUnder, BeginsVeto, BeginsWarned, form_of, leaf}
 use Rattle.span_script.specs.declared.mute.Mute.{Mute}
 use Rattle.span_script.specs.declared.mute_veto.MuteVeto.{MuteVeto}
-use Rattle.span_script.specs.declared.stack_name.StackName.TheVariants.{Absent, Nested, Pair, Plain, Veto}
+use Rattle.span_script.specs.declared.stack_name.StackName.TheVariants.{Absent, Directives as Chosen, Nested, Pair, Plain, Veto}
+use Rattle.span_targets.specs.declared.setting.Setting.{Setting}
 use Rattle.span_targets.specs.declared.setting.Setting.TheVariants.{Directives, Level}
 
 quiet : RefusesNothing open_answers
@@ -99,6 +102,12 @@ honest_veto = record {
   built = (inr (refl, level_honest INFO, outside), (inr (refl, mute_honest, outside), (inr (level_honest WARN, open_layer), (inr open_layer, tt))));
 }
 
+pub honest_directives : IsHonestStack (form_of Chosen) 1
+honest_directives = record {
+  numbers = record { distinct = ((refl, tt), (tt, tt, λ k h. refl), λ k h. refl); handed_out = the_first };
+  built = (inr (setting_honest (Level TRACE), open_layer), (inr open_layer, tt));
+}
+
 pub honest_absent : IsHonestStack (form_of Absent) 0
 honest_absent = record {
   numbers = record { distinct = (tt, (tt, tt, λ k h. refl), λ k h. absurd (false≢true h)); handed_out = λ k h. absurd (false≢true h) };
@@ -108,14 +117,21 @@ honest_absent = record {
 -- ---- what settles their forms
 
 -- a level is set: the filter is by that level
-pub level_set : IsByLevel level_answers level_taken
+pub level_set : IsBySetting level_answers level_taken
 level_set a (Level l) b h = ap level_answers h
 level_set a (Directives f) b h = ap level_answers h
 
 -- none is set
-pub mute_kept : IsByLevel (λ (f : Mute). mute_answers) unreloaded
+pub mute_kept : IsBySetting (λ (f : Mute). mute_answers) unreloaded
 mute_kept a (Level l) b h = refl
 mute_kept a (Directives f) b h = refl
+
+-- another is taken: the filter is by that
+pub setting_set : IsBySetting setting_answers setting_taken
+setting_set (Level k) (Level l) b h = ap setting_answers h
+setting_set (Level k) (Directives f) b h = ap setting_answers h
+setting_set (Directives g) (Level l) b h = ap setting_answers h
+setting_set (Directives g) (Directives f) b h = ap setting_answers h
 
 abbrev pub StaysLevelled : ℕ → Levelled → Form → Type 0
 StaysLevelled n = StaysUnder n level_answers StaysLeaf
@@ -132,6 +148,9 @@ StaysNested = StayBoth OnSubscriber (StaysUnder 0 (λ (f : Mute). mute_answers) 
 abbrev pub StaysWarned : Warned → Form → Type 0
 StaysWarned = StayBoth OnSubscriber (StaysLevelled 0) StaysPlain
 
+abbrev pub StaysDirected : DirectivesStack → Form → Type 0
+StaysDirected = StayBoth OnSubscriber (StaysUnder 0 setting_answers StaysLeaf) StaysPlain
+
 abbrev pub StaysVetoed : VetoStack → Form → Type 0
 StaysVetoed = StayBoth OnSubscriber (StaysVeto level_answers) (StayBoth OnSubscriber (StaysVeto (λ (m : MuteVeto). mute_answers)) StaysWarned)
 
@@ -142,7 +161,7 @@ pub stays_plain : (x : Layered RecorderState RegistryState) → StaysPlain x (fo
 stays_plain x = record { over = leaf; below = Terminal Base; outer = refl; inner = refl; form = refl }
 
 stays_levelled : (n : ℕ) (level : LevelFilter) (x : Levelled) → BeginsUnder n level x → StaysLevelled n x (Filtered (Some n) (level_answers level) leaf)
-stays_levelled n level x h = record { number = h.number; below = leaf; inside = refl; form = ap (λ k. Filtered (Some n) (level_answers k) leaf) (sym h.level) }
+stays_levelled n level x h = record { number = h.number; below = leaf; inside = refl; form = ap (λ k. Filtered (Some n) (level_answers k) leaf) (sym h.filter) }
 
 pub stays_pair : {limits : Limits} (x : Layered (Layered Levelled Levelled) RegistryState) → BeginsPair limits x → StaysPair x (form_of Pair)
 stays_pair x h =
@@ -183,13 +202,26 @@ stays_absent x h = record {
   form = refl;
 }
 
+stays_set : (x : Directed) → BeginsUnder 0 (Level TRACE) x → StaysUnder 0 setting_answers StaysLeaf x (Filtered (Some 0) (setting_answers (Level TRACE)) leaf)
+stays_set x h = record {
+  number = h.number;
+  below = leaf;
+  inside = refl;
+  form = ap (λ (s : Setting). Filtered (Some 0) (setting_answers s) leaf) (sym h.filter);
+}
+
+pub stays_directives : {limits : Limits} (x : DirectivesStack) → BeginsDirectives limits x → StaysDirected x (form_of Chosen)
+stays_directives x h =
+    let chosen = stays_set (outer_of x) h.chosen in
+    record { over = _; below = _; outer = chosen; inner = stays_plain (inner_of x); form = refl }
+
 -- ---- they begin as they were made, once they are in use
 
-abbrev IsUsed : Levelled → Levelled → Type 0
+abbrev IsUsed : {F : Type 0} → FilteredLayer RecorderState F → FilteredLayer RecorderState F → Type 0
 IsUsed x y = (id_of y ≡ id_of x) × (filter_of y ≡ filter_of x) × (layer_of y ≡ layer_of x)
 
-used_levelled : (n : ℕ) (level : LevelFilter) (x y : Levelled) → IsUsed x y → BeginsUnder n level x → BeginsUnder n level y
-used_levelled n level x y u h = record { number = subst (λ i. IsNumber i (Some n)) (sym u.0) h.number; level = u.1 ∙ h.level; recorder = u.2 ∙ h.recorder }
+used_levelled : {F : Type 0} (n : ℕ) (own : F) (x y : FilteredLayer RecorderState F) → IsUsed x y → BeginsUnder n own x → BeginsUnder n own y
+used_levelled n own x y u h = record { number = subst (λ i. IsNumber i (Some n)) (sym u.0) h.number; filter = u.1 ∙ h.filter; recorder = u.2 ∙ h.recorder }
 
 pub used_pair : {limits : Limits} (x y : Layered (Layered Levelled Levelled) RegistryState) → IsUsed (outer_of (outer_of x)) (outer_of (outer_of y))
     → IsUsed (inner_of (outer_of x)) (inner_of (outer_of y)) → inner_of y ≡ inner_of x → BeginsPair limits x → BeginsPair limits y
@@ -225,5 +257,13 @@ pub used_absent : {limits : Limits} (x y : AbsentStack) → outer_of y ≡ outer
 used_absent x y base none same h = record {
   base = base ∙ h.base;
   absent = still_absent (λ (a b : RecorderState). b ≡ a) (outer_of (inner_of x)) (outer_of (inner_of y)) none h.absent;
+  registry = same ∙ h.registry;
+}
+
+pub used_directives : {limits : Limits} (x y : DirectivesStack) → IsUsed (outer_of x) (outer_of y)
+    → outer_of (inner_of y) ≡ outer_of (inner_of x) → inner_of (inner_of y) ≡ inner_of (inner_of x) → BeginsDirectives limits x → BeginsDirectives limits y
+used_directives x y chosen base same h = record {
+  base = base ∙ h.base;
+  chosen = used_levelled 0 (Level TRACE) (outer_of x) (outer_of y) chosen h.chosen;
   registry = same ∙ h.registry;
 }

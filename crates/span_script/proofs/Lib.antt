@@ -8,5 +8,6 @@ mod Begins
 mod Gives
 mod Honest
 mod Naming
+mod Runs
 mod Steady
 mod Written

@@ -1,8 +1,9 @@
 -- Which words are lines, by what is behind the first of them.
 use Rattle.std.proofs.Common.{◌≡◌, ◌≢◌, ◌∙◌, ℕ, ◌+◌, ◌<◌, List, [], ◌∷◌, Option, Some, None, refl, sym, ap, subst, arith, inl, inr}
-use Rattle.std.specs.Prelude.{⊤, IsTrue, bytes_eq, codes, false}
+use Rattle.std.specs.Prelude.{⊤, IsTrue, ◌&&◌, ◌||◌, ◌==◌, bytes_eq, codes, false, length, not, true}
 use Rattle.std.specs.Borrow.{Bor}
-use Rattle.std.proofs.lemmas.Bool.{true≢false}
+use Rattle.std.proofs.lemmas.Bool.{and_parts, eqb-true, false_from_ne_true, true≢false}
+use Rattle.std.specs.List.{list_all}
 use Rattle.std.proofs.lemmas.Slice.Eq.{bytes_eq-Decides}
 use Rattle.std.specs.Option.{option_map_or}
 use Rattle.span_core.specs.declared.level.Level.{Level}
@@ -15,12 +16,14 @@ use Rattle.span_core.specs.declared.metadata.Metadata.{Metadata}
 use Rattle.span_core.specs.declared.metadata.TheConstants.Kind.{SPAN, EVENT}
 use Rattle.span_core.specs.declared.span.Lane.{Lane}
 use Rattle.span_script.specs.Misfit.{Begins, Expects, HasRight, IsMisfit}
-use Rattle.span_script.specs.Script.{digit, is_label, lane_words, level_word, mute_words, parent_words, site_word, stack_word, tail_words, verbosity_word}
+use Rattle.span_script.specs.Script.{digit, has_return, is_label, is_letter_or_digit, is_return, is_text, lane_words, level_word, mute_words, parent_words}
+use Rattle.span_script.specs.Script.{site_word, stack_word, tail_words, verbosity_word}
 use Rattle.span_script.specs.Script.{word_of, words_of}
 use Rattle.span_script.specs.Script.{first_words, IsAnySite, IsBehind, IsDigit, IsEventSite, IsFirst, IsLaneAndName, IsLater, IsLine, IsName, IsParentName}
 use Rattle.span_script.specs.Script.{IsSpanSite, IsTail, Spells}
 use Rattle.span_script.specs.declared.line.Line.{Line}
 use Rattle.span_script.specs.declared.line.Line.TheVariants.{New, Event, Enter, Exit, Record, Follows, Clone, Drop, Enabled, Current, Level as LevelLine}
+use Rattle.span_script.specs.declared.line.Line.TheVariants.{Targets}
 use Rattle.span_script.specs.declared.line.MuteField.{MuteField}
 use Rattle.span_script.specs.declared.line.MuteField.TheVariants.{Absent, Given}
 use Rattle.span_script.specs.declared.line.Name.TheVariants.{Nobody, Label}
@@ -113,6 +116,33 @@ label-kind = record { of = codes "a"; is = refl; wants = λ label is. (label, is
 pub name-kind : Kind IsName word_of NotLabel
 name-kind = record { of = Nobody; is = tt; wants = λ label is. (Label (lend label), is, refl) }
 
+-- a text that directives may stand in
+abbrev pub IsText : List ℕ → Type 0
+IsText text = IsTrue (is_text text)
+
+letter-no-return : (c : ℕ) → is_letter_or_digit c ≡ true → is_return c ≡ false
+letter-no-return c h = false_from_ne_true (c == 13) (λ e. true≢false (sym h ∙ ap is_letter_or_digit (eqb-true c 13 e)))
+
+letters-no-return : (word : List ℕ) → list_all is_letter_or_digit word ≡ true → has_return word ≡ false
+letters-no-return [] h = refl
+letters-no-return (c ∷ word) h =
+    let parts = and_parts (is_letter_or_digit c) (list_all is_letter_or_digit word) h in
+    ap (λ b. b || has_return word) (letter-no-return c parts.0) ∙ letters-no-return word parts.1
+
+some-length : (c : ℕ) (word : List ℕ) → (length (c ∷ word) == 0) ≡ false
+some-length c word =
+    false_from_ne_true (length (c ∷ word) == 0) (λ e. let none : length (c ∷ word) ≡ 0 = eqb-true (length (c ∷ word)) 0 e in omega (arith, none))
+
+-- each label is one
+label-text : (label : List ℕ) → IsLabel label → IsText label
+label-text [] is = absurd (true≢false (sym is))
+label-text (c ∷ label) is =
+    ap (λ b. not b && not (has_return (c ∷ label))) (some-length c label)
+    ∙ ap (λ b. not false && not b) (letters-no-return (c ∷ label) (and_parts _ (list_all is_letter_or_digit (c ∷ label)) is).1)
+
+pub text-kind : Kind IsText (λ text. text) NotLabel
+text-kind = record { of = codes "a"; is = refl; wants = λ label is. (label, label-text label is, refl) }
+
 no-level : (level : LevelFilter) → ¬ (codes "a" ≡ level_word level)
 no-level level e = go level.0 e
   where
@@ -154,6 +184,9 @@ CurrentRest = Then IsDigit digit End
 
 abbrev pub LevelRest : Rule
 LevelRest = Then IsDigit digit (Then (λ (level : LevelFilter). ⊤) level_word End)
+
+abbrev pub TargetsRest : Rule
+TargetsRest = Then IsDigit digit (Then IsText (λ text. text) End)
 
 new-from : (l : Line) → IsLine l → (ws : List (List ℕ)) → codes "new" ∷ ws ≡ words_of l → NewRest ws
 new-from (New lane site label parent) is ws e =
@@ -259,6 +292,16 @@ level-misfit = misfit-to LevelRest (IsBehind (codes "level")) (λ ws. (
   λ l. level-from l.0 l.1 ws l.2,
 ))
 
+targets-from : (l : Line) → IsLine l → (ws : List (List ℕ)) → codes "targets" ∷ ws ≡ words_of l → TargetsRest ws
+targets-from (Targets number text) is ws e = subst TargetsRest (behind e) (then number _ is.0 (then text.now [] is.1 refl))
+targets-from l is ws e = absurd (other e refl)
+
+pub targets-misfit : (words : List (List ℕ)) (m : Misfit) → IsMisfit TargetsRest words m → IsMisfit (IsBehind (codes "targets")) words m
+targets-misfit = misfit-to TargetsRest (IsBehind (codes "targets")) (λ ws. (
+  λ t. let s = t.goes in let a = t.are in let b = s.are in let c = s.goes in (Targets t.of (lend s.of), (t.is, s.is), cc),
+  λ l. targets-from l.0 l.1 ws l.2,
+))
+
 -- `a` begins no line
 no-verb : (l : Line) (ws : List (List ℕ)) → ¬ (codes "a" ∷ ws ≡ words_of l)
 no-verb (Current lane) ws e = other e refl
@@ -267,8 +310,8 @@ no-verb l ws e = other e refl
 -- a word that begins no line
 pub no-later : (word : List ℕ) → word ≢ codes "new" → word ≢ codes "event" → word ≢ codes "enter" → word ≢ codes "exit" → word ≢ codes "record"
     → word ≢ codes "drop" → word ≢ codes "follows" → word ≢ codes "clone" → word ≢ codes "enabled" → word ≢ codes "current" → word ≢ codes "level"
-    → ¬ (Begins IsLater word)
-no-later word new event enter exit record' drop follows clone enabled current level b = go b.1.0 b.1.2
+    → word ≢ codes "targets" → ¬ (Begins IsLater word)
+no-later word new event enter exit record' drop follows clone enabled current level targets b = go b.1.0 b.1.2
   where
     go : (l : Line) → ¬ (word ∷ b.0 ≡ words_of l)
     go (New lane site label parent) e = new (head e)
@@ -282,6 +325,7 @@ no-later word new event enter exit record' drop follows clone enabled current le
     go (Enabled lane site) e = enabled (head e)
     go (Current lane) e = current (head e)
     go (LevelLine number level') e = level (head e)
+    go (Targets number text) e = targets (head e)
 
 no-empty : (l : Line) → ¬ ([] ≡ words_of l)
 no-empty (Current lane) e = cc
@@ -445,9 +489,9 @@ no-empty-first s = let e = s.2 in cc
 pub first-expects : Expects IsFirst UnknownWord
 first-expects = ((codes "stack", (codes "plain" ∷ [], (Plain, tt, refl))), λ labels. no-first (codes "a") (λ e. differ e refl) (labels (codes "a") refl))
 
-pub ruleset kinds = (digit-kind, span-kind, event-kind, site-kind, label-kind, name-kind, level-kind, has-end, has-then, parent-some, tail-some)
+pub ruleset kinds = (digit-kind, span-kind, event-kind, site-kind, label-kind, name-kind, level-kind, text-kind, has-end, has-then, parent-some, tail-some)
 
-pub ruleset verbs = (new-misfit, event-misfit, lane-misfit, follows-misfit, clone-misfit, enabled-misfit, current-misfit, level-misfit)
+pub ruleset verbs = (new-misfit, event-misfit, lane-misfit, follows-misfit, clone-misfit, enabled-misfit, current-misfit, level-misfit, targets-misfit)
 
 -- what is wrong behind words of these kinds
 pub ruleset reading = (then-first, then-on, end-many, kinds, verbs)

@@ -1,4 +1,4 @@
--- Stacks whose form only levels change, since what settles it stays as it is: their runs, and what their recorders keep.
+-- Stacks whose form only settings change, since what settles it stays as it is: their runs, and what their recorders keep.
 use Rattle.std.proofs.Common.{◌≡◌, ℕ, List, [], ◌++◌, map, Bool, true, false, Option, Some, None, refl, sym, ap, subst, ◌∙◌}
 use Rattle.std.specs.Prelude.{if◌then◌else◌}
 use Rattle.std.proofs.lemmas.Bool.{eq-eqb, eqb-true, true≢false}
@@ -6,9 +6,7 @@ use Rattle.std.proofs.lemmas.List.{append-nil}
 use Rattle.span_core.specs.Filters.{FilterSet, has_filter}
 use Rattle.span_core.specs.declared.filter.FilterId.{FilterId}
 use Rattle.span_targets.specs.declared.setting.Setting.{Setting}
-use Rattle.span_dispatch.proofs.Fixed.{runs_by}
 use Rattle.span_dispatch.proofs.CallerLemmas.{heard_records}
-use Rattle.span_dispatch.specs.Fixed.{RunsBy, set_at}
 use Rattle.span_dispatch.specs.Recorder.{RecorderState, kept_notice, new_recorder, recorder_steps}
 use Rattle.span_dispatch.specs.Cache.{no_callsite}
 use Rattle.span_dispatch.specs.Serve.{IsReady, Served, kept_by, stack_of}
@@ -17,7 +15,6 @@ use Rattle.span_dispatch.specs.declared.recorded.Recorded.{Recorded}
 use Rattle.span_dispatch.specs.declared.request.Answer.{Answer}
 use Rattle.span_dispatch.specs.declared.request.Request.{Request}
 use Rattle.span_filters.specs.Filter.{FilterReloadSteps, settled_answers, unmoved}
-use Rattle.span_filters.specs.Level.{answers_set, level_answers}
 use Rattle.span_stacks.specs.Filtered.{FilteredForm, FilteredSteps, Hooked, IsNumber, filter_of, id_of, layer_of}
 use Rattle.span_stacks.specs.Honest.{IsHonestStack}
 use Rattle.span_layers.specs.Idle.{IdleSteps}
@@ -41,18 +38,20 @@ use Rattle.span_registry.specs.Hooks.{StackSteps, no_filter}
 use Rattle.span_registry.specs.Reload.{ReloadSteps, unreloaded}
 use Rattle.span_registry.specs.Position.{HearSteps, Heard, Here}
 use Rattle.span_registry.specs.Plan.{Both, Nobody, Plan, Through}
+use Rattle.span_script.proofs.Runs.{runs_by}
+use Rattle.span_script.specs.Runs.{RunsBySettings, answers_reloaded, reloaded_at}
 use Rattle.span_script.specs.Stacks.{leaf, start_of}
 use Rattle.span_script.specs.declared.stack_name.StackName.{StackName}
 
 -- ---- layers
 
--- a layer has this form as long as this is so of the two; it stays so with the form, and where a level is set with what that makes of the form
+-- a layer has this form as long as this is so of the two; it stays so with the form, and where a setting is taken with what that makes of the form
 pub record IsSteady {L : Type 0} (has_form : L → Form → Type 0) (stepped : LayerSteps L) (reloaded : ReloadSteps L) (Stays : L → Form → Type 0) : Type 0 where
   pub known : (x : L) (f g : Form) → Stays x f → has_form x g → g ≡ f
   pub has : (x : L) (f : Form) → Stays x f → has_form x f
   pub goes : (x : L) (f : Form) (p : Plan) (e : Notice) (lane : ℕ) (under : FilterSet) (v : RegistryState) (y : L) (w : RegistryState)
       → stepped x p e lane under v y w → Stays x f → Stays y f
-  pub set : (x : L) (f : Form) (n : ℕ) (l : Setting) (y : L) → reloaded x n l y → Stays x f → Stays y (set_at n l f)
+  pub set : (x : L) (f : Form) (n : ℕ) (l : Setting) (y : L) → reloaded x n l y → Stays x f → Stays y (reloaded_at n l f)
 
 -- a recorder is a leaf that refuses nothing
 abbrev pub StaysLeaf : RecorderState → Form → Type 0
@@ -63,7 +62,7 @@ steady_recorder = record {
   known = λ x f g s h. h ∙ sym s;
   has = λ x f s. s;
   goes = λ x f p e lane under v y w h s. s;
-  set = λ x f n l y h s. ap (set_at n l) s;
+  set = λ x f n l y h s. ap (reloaded_at n l) s;
 }
 
 -- a leaf that vetoes is by what it answers
@@ -76,7 +75,7 @@ steady_veto answers = record {
   known = λ x f g s h. h.2 ∙ ap (λ b. Leaf true b) h.1 ∙ sym s;
   has = λ x f s. (answers x, refl, s);
   goes = λ x f p e lane under v y w h s. s ∙ ap (λ z. Leaf true (answers z)) (sym h.1);
-  set = λ x f n l y h s. ap (set_at n l) s ∙ ap (λ z. Leaf true (answers z)) (sym h);
+  set = λ x f n l y h s. ap (reloaded_at n l) s ∙ ap (λ z. Leaf true (answers z)) (sym h);
 }
 
 -- an absent layer stays absent, whatever it is notified of
@@ -103,7 +102,7 @@ module _ {L : Type 0} (has_form : L → Form → Type 0) (stepped : LayerSteps L
     known = λ x f g s h. subst (λ o. OptionForm has_form o g) s.0 h ∙ sym s.1;
     has = λ x f s. subst (λ o. OptionForm has_form o f) (sym s.0) s.1;
     goes = λ x f p e lane under v y w h s. (goes_absent x p e lane under v y w h s.0, s.1);
-    set = λ x f n l y h s. (still_absent (λ a b. reloaded a n l b) x y h s.0, ap (set_at n l) s.1);
+    set = λ x f n l y h s. (still_absent (λ a b. reloaded a n l b) x y h s.0, ap (reloaded_at n l) s.1);
   }
 
 -- an id has one number
@@ -130,12 +129,13 @@ pub record StaysUnder {L F : Type 0} (n : ℕ) (answers : F → Behaviour) (Stay
   pub inside : Stays (layer_of x) below
   pub form : f ≡ Filtered (Some n) (answers (filter_of x)) below
 
--- what such a filter answers once it was asked to take a setting: it is by level, if it takes that
-abbrev pub IsByLevel : {F : Type 0} → (F → Behaviour) → FilterReloadSteps F → Type 0
-IsByLevel {F = F} answers own = (a : F) (l : Setting) (b : F) → own a l b → answers b ≡ answers_set l (answers a)
+-- what such a filter answers once it was asked to take a setting: it goes by that, if it takes it
+abbrev pub IsBySetting : {F : Type 0} → (F → Behaviour) → FilterReloadSteps F → Type 0
+IsBySetting {F = F} answers own = (a : F) (l : Setting) (b : F) → own a l b → answers b ≡ answers_reloaded l (answers a)
 
 module _ {L F : Type 0} {has_form : L → Form → Type 0} {stepped : LayerSteps L} {reloaded : ReloadSteps L} {Stays : L → Form → Type 0}
-    {own : FilterReloadSteps F} (n : ℕ) (answers : F → Behaviour) (by_level : IsByLevel answers own) (inner : IsSteady has_form stepped reloaded Stays) where
+    {own : FilterReloadSteps F} (n : ℕ)
+    (answers : F → Behaviour) (by_setting : IsBySetting answers own) (inner : IsSteady has_form stepped reloaded Stays) where
   known_under : (x : FilteredLayer L F) (f g : Form)
       → StaysUnder n answers Stays x f → FilteredForm (id_of x) (settled_answers answers (filter_of x)) (has_form (layer_of x)) g → g ≡ f
   known_under x f (Filtered m b g) s h =
@@ -155,21 +155,22 @@ module _ {L F : Type 0} {has_form : L → Form → Type 0} {stepped : LayerSteps
   -- by whether the filter has the number
   set_if : (t : Bool) (k : F) (x : L) (m : ℕ) (l : Setting) (g : F) (y : L) (below : Form) → ReloadsIf own reloaded t k x m l g y → Stays x below
       → (after : Form) × Stays y after
-      × ((if t then Filtered (Some n) (answers_set l (answers k)) below else Filtered (Some n) (answers k) (set_at m l below))
+      × ((if t then Filtered (Some n) (answers_reloaded l (answers k)) below else Filtered (Some n) (answers k) (reloaded_at m l below))
       ≡ Filtered (Some n) (answers g) after)
-  set_if true k x m l g y below h s = (below, subst (λ z. Stays z below) (sym h.1) s, ap (λ a. Filtered (Some n) a below) (sym (by_level k l g h.0)))
-  set_if false k x m l g y below h s = (set_at m l below, inner.set x below m l y h.1 s, ap (λ z. Filtered (Some n) (answers z) (set_at m l below)) (sym h.0))
+  set_if true k x m l g y below h s = (below, subst (λ z. Stays z below) (sym h.1) s, ap (λ a. Filtered (Some n) a below) (sym (by_setting k l g h.0)))
+  set_if false k x m l g y below h s =
+      (reloaded_at m l below, inner.set x below m l y h.1 s, ap (λ z. Filtered (Some n) (answers z) (reloaded_at m l below)) (sym h.0))
 
   set_under : (x : FilteredLayer L F) (f : Form) (m : ℕ) (l : Setting) (y : FilteredLayer L F)
       → (id_of y ≡ id_of x) × FilteredReloads own reloaded (id_of x) (filter_of x) (layer_of x) m l (filter_of y) (layer_of y)
-      → StaysUnder n answers Stays x f → StaysUnder n answers Stays y (set_at m l f)
+      → StaysUnder n answers Stays x f → StaysUnder n answers Stays y (reloaded_at m l f)
   set_under x f m l y h s =
       let k = filter_of x in
       let one = set_if (has_filter (id_of x) m) k (layer_of x) m l (filter_of y) (layer_of y) s.below h.1 s.inside in
       let numbered = ap (λ (set : FilterSet). set m) (sym s.number.1) in
       let asked = ap (λ (t : Bool). if t then Filtered
-      (Some n) (answers_set l (answers k)) s.below else Filtered (Some n) (answers k) (set_at m l s.below)) numbered in
-      record { number = subst (λ i. IsNumber i (Some n)) (sym h.0) s.number; below = one.0; inside = one.1; form = ap (set_at m l) s.form ∙ asked ∙ one.2 }
+      (Some n) (answers_reloaded l (answers k)) s.below else Filtered (Some n) (answers k) (reloaded_at m l s.below)) numbered in
+      record { number = subst (λ i. IsNumber i (Some n)) (sym h.0) s.number; below = one.0; inside = one.1; form = ap (reloaded_at m l) s.form ∙ asked ∙ one.2 }
 
   -- a steady layer under such a filter is steady
   pub steady_under : IsSteady (λ x. FilteredForm (id_of x) (settled_answers answers (filter_of x)) (has_form (layer_of x)))
@@ -210,12 +211,19 @@ known_over joint outer inner o i (Parts k p q) a b h =
     λ j. Parts (same j) (first j) (second j)
 known_over joint outer inner o i other a b h = absurd h
 
--- a level that is set in both changes the form of both
+-- a setting that is taken in both changes the form of both
 set_both : {L I : Type 0} {Outer : L → Form → Type 0} {Inner : I → Form → Type 0} {joint : Arrangement} (x y : Layered L I) (f : Form) (n : ℕ) (l : Setting)
-    → ((g : Form) → Outer (outer_of x) g → Outer (outer_of y) (set_at n l g))
-    → ((g : Form) → Inner (inner_of x) g → Inner (inner_of y) (set_at n l g)) → StayBoth joint Outer Inner x f → StayBoth joint Outer Inner y (set_at n l f)
+    → ((g : Form) → Outer (outer_of x) g → Outer (outer_of y) (reloaded_at n l g))
+    → ((g : Form) → Inner (inner_of x) g → Inner (inner_of y) (reloaded_at n l g))
+    → StayBoth joint Outer Inner x f → StayBoth joint Outer Inner y (reloaded_at n l f)
 set_both x y f n l outer inner s =
-    record { over = set_at n l s.over; below = set_at n l s.below; outer = outer s.over s.outer; inner = inner s.below s.inner; form = ap (set_at n l) s.form }
+    record {
+      over = reloaded_at n l s.over;
+      below = reloaded_at n l s.below;
+      outer = outer s.over s.outer;
+      inner = inner s.below s.inner;
+      form = ap (reloaded_at n l) s.form;
+    }
 
 module _ {L I : Type 0} {outer_form : L → Form → Type 0} {inner_form : I → Form → Type 0}
     {outer_steps : LayerSteps L} {inner_steps : LayerSteps I} {outer_levels : ReloadSteps L} {inner_levels : ReloadSteps I} {Outer : L → Form → Type 0}
@@ -252,7 +260,7 @@ pub record IsSteadyStack {S : Type 0} (with_registry : S → RegistryState → S
   pub goes : (x : S) (f : Form) (p : Plan) (e : Notice) (lane : ℕ) (v : RegistryState) (y : S) (w : RegistryState)
       → stepped x p e lane v y w → Stays x f → Stays y f
   pub aside : (x : S) (f : Form) (w : RegistryState) → Stays x f → Stays (with_registry x w) f
-  pub set : (x : S) (f : Form) (n : ℕ) (l : Setting) (y : S) → reloaded x n l y → Stays x f → Stays y (set_at n l f)
+  pub set : (x : S) (f : Form) (n : ℕ) (l : Setting) (y : S) → reloaded x n l y → Stays x f → Stays y (reloaded_at n l f)
 
 -- the registry is the base
 abbrev pub StaysBase : RegistryState → Form → Type 0
@@ -264,7 +272,7 @@ steady_registry = record {
   has = λ x f s. s;
   goes = λ x f p e lane v y w h s. s;
   aside = λ x f w s. s;
-  set = λ x f n l y h s. ap (set_at n l) s;
+  set = λ x f n l y h s. ap (reloaded_at n l) s;
 }
 
 module _ {L I : Type 0} {with_registry : I → RegistryState → I} {outer_form : L → Form → Type 0} {inner_form : I → Form → Type 0} {outer_steps : LayerSteps L}
@@ -315,12 +323,12 @@ module _ {S : Type 0} {with_registry : S → RegistryState → S} {has_form : S 
   pub run_of : {hears : HearSteps S} {acts_at : ActsAt S} {requests : List Request} {answers : List Answer}
       (f : Form) (old new : Dispatch S) (s : RegistryState) → Stays (stack_of old) f → registry (stack_of old) ≡ s → kept_by old ≡ Some no_callsite
       → (h : Served registry with_registry has_form stepped reloaded hears acts_at requests answers old new)
-      → RunsBy f requests answers h.made (Some no_callsite) s (kept_by new) (registry (stack_of new))
+      → RunsBySettings f requests answers h.made (Some no_callsite) s (kept_by new) (registry (stack_of new))
   run_of {hears} {acts_at} {requests} {answers} f old new s stays first kept h =
       let run = runs_by registry with_registry has_form stepped reloaded Stays
       steady.known steady.goes steady.aside steady.set [] requests answers h.made (kept_by old) f (stack_of old) (kept_by new) (stack_of new) stays h.run in
-      subst (λ k. RunsBy f requests answers h.made k s (kept_by new) (registry (stack_of new))) kept
-      (subst (λ r. RunsBy f requests answers h.made (kept_by old) r (kept_by new) (registry (stack_of new))) first (run.0, run.2))
+      subst (λ k. RunsBySettings f requests answers h.made k s (kept_by new) (registry (stack_of new))) kept
+      (subst (λ r. RunsBySettings f requests answers h.made (kept_by old) r (kept_by new) (registry (stack_of new))) first (run.0, run.2))
 
 -- a new recorder that hasn't failed keeps all that it went through
 pub all_kept : (old new : RecorderState) (heard : Heard)

@@ -8,8 +8,8 @@ use Rattle.std.specs.Borrow.{Bor}
 use Rattle.span_script.specs.Script.{cut, is_full, lines_of, read_in, requests_of, words_in, words_of, words_of_texts, AskFor, IsFirst, IsLater, IsLine}
 use Rattle.span_script.specs.Script.{IsScript}
 use Rattle.span_script.specs.Misfit.{column_of, IsMisfit}
-use Rattle.span_script.specs.Reason.{first_reason, IsFirstMisfit, IsLabelFaultIn, IsMisfitAt}
-use Rattle.span_script.specs.Fault.{Blames, IsLabelFaultAt, IsScriptFault, IsWrongFor}
+use Rattle.span_script.specs.Reason.{first_reason, IsFirstMisfit, IsLineFaultIn, IsMisfitAt}
+use Rattle.span_script.specs.Fault.{Blames, IsLineFaultAt, IsScriptFault, IsWrongFor}
 use Rattle.span_script.specs.declared.fault.ScriptFault.{ScriptFault}
 use Rattle.span_script.specs.declared.fault.ScriptFault.TheVariants.{Memory, Wrong}
 use Rattle.span_dispatch.specs.declared.request.Request.{Request}
@@ -101,13 +101,13 @@ later-blamed n script s text words m column f some full cuts misfit columns is =
 -- one whose labels are wrong
 pub label-blamed : (n : ℕ) (script : Option Script) (s : Script) (text : List ℕ) (words : List (List ℕ)) (l : Line) (f : ScriptFault)
     → script ≡ Some s → (length text == 0) ≡ false → words ≡ cut 32 text
-    → words ≡ words_of l → IsLine l → Blames n (IsLabelFaultAt (lines_of s) l words) f → Blames n (IsWrongFor (read_in script) text) f
+    → words ≡ words_of l → IsLine l → Blames n (IsLineFaultAt (lines_of s) l words) f → Blames n (IsWrongFor (read_in script) text) f
 label-blamed n script s text words l Memory some full cuts spelled is h = tt
 label-blamed n script s text words l (Wrong w) some full cuts spelled is h =
     subst (λ s. (w.line ≡ n) × IsWrongFor (read_in s) text w.column w.reason) (sym some) (
       h.0,
       (
         (ap (λ b. not b) full, inr (l, (is, sym cuts ∙ spelled, h.1.0))),
-        inr (l, (is, sym cuts ∙ spelled, subst (λ ws. IsLabelFaultIn (lines_of s) l ws w.column w.reason) cuts h.1.1)),
+        inr (l, (is, sym cuts ∙ spelled, subst (λ ws. IsLineFaultIn (lines_of s) l ws w.column w.reason) cuts h.1.1)),
       ),
     )

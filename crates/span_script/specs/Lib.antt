@@ -5,6 +5,7 @@ pub mod Printed
 pub mod Program
 pub mod Reason
 pub mod RunFault
+pub mod Runs
 pub mod Script
 pub mod Stacks
 pub mod laws

@@ -1,7 +1,7 @@
 -- Words that are not right: which of them is wrong, and why.
-use Rattle.std.specs.Prelude.{◌≡◌, ◌≢◌, ◌⊎◌, ℕ, ◌+◌, ◌-◌, ◌<◌, List, [], ◌∷◌, ◌++◌, IsTrue, Bool, false, ◌==◌, Some, length, take, slice_get}
+use Rattle.std.specs.Prelude.{◌≡◌, ◌≢◌, ◌⊎◌, ℕ, ◌+◌, ◌-◌, ◌<◌, List, [], ◌∷◌, ◌++◌, IsTrue, false, Some, length, take, slice_get}
 use Rattle.std.specs.List.{list_any}
-use Rattle.span_script.specs.Script.{is_label}
+use Rattle.span_script.specs.Script.{has_return, is_label, is_return}
 use Rattle.span_script.specs.declared.misfit.Misfit.{Misfit}
 use Rattle.span_script.specs.declared.reason.Reason.{Reason}
 use Rattle.span_script.specs.declared.reason.Reason.TheVariants.{UnknownWord, NotLabel, TooManyWords, TooFewWords, EmptyWord, CarriageReturn}
@@ -25,10 +25,6 @@ Expects IsRight UnknownWord = ((word : List ℕ) × Begins IsRight word) × ¬ (
 Expects IsRight TooManyWords = (word : List ℕ) → ¬ (Begins IsRight word)
 Expects IsRight reason = ⊥
 
--- a carriage return
-abbrev pub is_return : ℕ → Bool
-is_return c = c == 13
-
 -- the first carriage return of a word stands there
 abbrev pub IsReturnAt : List ℕ → ℕ → Type 0
 IsReturnAt word offset =
@@ -40,7 +36,7 @@ abbrev pub IsFault : Reason → List ℕ → ℕ → Reason → Type 0
 IsFault otherwise word offset reason = ((reason ≡ CarriageReturn) × IsReturnAt word offset)
     ⊎ (((reason ≡ EmptyWord) × (offset ≡ 0) × (length word ≡ 0))
     ⊎ ((reason ≡ otherwise) × (offset ≡ 0) × (0 < length word)
-    × (list_any is_return word ≡ false)))
+    × (has_return word ≡ false)))
 
 -- that is said of words of which the first is wrong, or one more is needed
 abbrev pub IsSaid : Reason → List (List ℕ) → Misfit → Type 0

@@ -1,6 +1,6 @@
 -- Scripts: how lines are spelled, what they ask for, and what can be wrong with them.
-use Rattle.std.specs.Prelude.{◌≡◌, ◌≢◌, ◌⊎◌, ℕ, ◌+◌, ◌<◌, ◌≤◌, ◌==◌, List, [], ◌∷◌, ◌++◌, ⊤, Bool, true, ◌&&◌, ◌||◌, not, nat_le, IsTrue, Option, Some, None, IsSome, IsSomeAnd, IfSome, MatchOption, length, map, filter, codes, bytes_eq, slice_get, slice_index}
-use Rattle.std.specs.List.{list_all, slice_split}
+use Rattle.std.specs.Prelude.{◌≡◌, ◌≢◌, ◌⊎◌, ℕ, ◌+◌, ◌<◌, ◌≤◌, ◌==◌, List, [], ◌∷◌, ◌++◌, ⊤, Bool, true, ◌&&◌, ◌||◌, not, nat_le, IsTrue, Option, Some, None, Ok, IsSome, IsSomeAnd, IfSome, MatchOption, length, map, filter, codes, bytes_eq, slice_get, slice_index}
+use Rattle.std.specs.List.{list_all, list_any, slice_split}
 use Rattle.std.specs.Option.{option_map_or}
 use Rattle.std.specs.Borrow.{Bor}
 use Rattle.std.specs.Char.{is_ascii_lowercase, is_ascii_digit}
@@ -28,7 +28,7 @@ use Rattle.span_script.specs.declared.line.ParentName.TheVariants.{Contextual, R
 use Rattle.span_script.specs.declared.line.MuteField.{MuteField}
 use Rattle.span_script.specs.declared.line.MuteField.TheVariants.{Absent, Given}
 use Rattle.span_script.specs.declared.line.Line.{Line}
-use Rattle.span_script.specs.declared.line.Line.TheVariants.{New, Event, Enter, Exit, Record, Follows, Clone, Drop, Enabled, Current, Level as LevelLine}
+use Rattle.span_script.specs.declared.line.Line.TheVariants.{New, Event, Enter, Exit, Record, Follows, Clone, Drop, Enabled, Current, Level as LevelLine, Targets}
 use Rattle.span_dispatch.specs.declared.request.Which.{Which}
 use Rattle.span_dispatch.specs.declared.request.Which.TheVariants.{Known, Made}
 use Rattle.span_dispatch.specs.declared.request.WhichParent.{WhichParent}
@@ -37,7 +37,9 @@ use Rattle.span_dispatch.specs.declared.request.Request.{Request}
 use Rattle.span_dispatch.specs.declared.request.Request.TheVariants as request
 use Rattle.span_script.specs.declared.script.Script.{Script}
 use Rattle.span_script.specs.declared.stack_name.StackName.{StackName}
-use Rattle.span_script.specs.declared.stack_name.StackName.TheVariants.{Plain, Pair, Nested, Veto, Absent as AbsentStack}
+use Rattle.span_script.specs.declared.stack_name.StackName.TheVariants.{Plain, Pair, Nested, Veto, Absent as AbsentStack, Directives}
+use Rattle.span_targets.specs.EnvText.{env_reading}
+use Rattle.span_targets.specs.Setting.{ReadsSetting}
 use Rattle.span_targets.specs.declared.setting.Setting.TheVariants as setting
 
 -- the texts that are borrowed
@@ -62,6 +64,18 @@ abbrev pub is_label : List ℕ → Bool
 is_label word =
     not (is_keyword word) && nat_le (length word) 16 && is_ascii_lowercase (slice_index word 0)
     && list_all is_letter_or_digit word
+
+-- a carriage return
+abbrev pub is_return : ℕ → Bool
+is_return c = c == 13
+
+-- whether one of a word's bytes is a carriage return
+abbrev pub has_return : List ℕ → Bool
+has_return word = list_any is_return word
+
+-- a word that is not empty and has no carriage return, whatever directives it may spell
+abbrev pub is_text : List ℕ → Bool
+is_text word = not (length word == 0) && not (has_return word)
 
 -- the levels of the ten callsites, by their numbers
 abbrev pub site_levels : List Level
@@ -152,6 +166,7 @@ words_of (Drop lane name) = codes "drop" ∷ lane_words (lane, name)
 words_of (Enabled lane site) = codes "enabled" ∷ digit lane.0 ∷ site_word site ∷ []
 words_of (Current lane) = codes "current" ∷ digit lane.0 ∷ []
 words_of (LevelLine number level) = codes "level" ∷ digit number ∷ level_word level ∷ []
+words_of (Targets number text) = codes "targets" ∷ digit number ∷ text.now ∷ []
 
 -- the label that a line declares, if it declares one
 abbrev pub declared_label : Line → Option (List ℕ)
@@ -176,8 +191,8 @@ IsParentName parent = ⊤
 abbrev pub IsTail : ParentName × MuteField → Type 0
 IsTail tail = IsParentName tail.0
 
--- the lane or the filter's number is a digit, the site one of spans, of events, or any, and the
--- names are names
+-- the lane or the filter's number is a digit, the site one of spans, of events, or any, the names
+-- are names, and the text is one
 abbrev pub IsLine : Line → Type 0
 IsLine (New lane site label parent) =
     (lane.0 < 10) × IsSpanSite site × IsTrue (is_label label.now) × IsParentName parent
@@ -191,8 +206,9 @@ IsLine (Drop lane name) = IsLaneAndName (lane, name)
 IsLine (Enabled lane site) = (lane.0 < 10) × IsAnySite site
 IsLine (Current lane) = lane.0 < 10
 IsLine (LevelLine number level) = number < 10
+IsLine (Targets number text) = (number < 10) × IsTrue (is_text text.now)
 
--- the words are a right line, whatever its labels
+-- the words are a right line, whatever its labels and its text
 abbrev pub IsLater : List (List ℕ) → Type 0
 IsLater = Spells IsLine words_of
 
@@ -248,7 +264,8 @@ abbrev pub mute_values : MuteField → List (List ℕ × FieldValue)
 mute_values Absent = []
 mute_values Given = (codes "mute", value.Bool true) ∷ []
 
--- after these lines, a line asks for this request; a clone is asked for on lane 0
+-- after these lines, a line asks for this request; a clone is asked for on lane 0, and of directives
+-- any setting that says what the text does
 abbrev pub Asks : List Line → Line → Request → Type 0
 Asks before (New lane site label name) (request.NewSpan lane' site' parent values) =
     (lane' ≡ lane) × (site' ≡ site) × MeansParent before name parent × (values_in values ≡ [])
@@ -267,6 +284,8 @@ Asks before (Enabled lane site) (request.Enabled lane' site') = (lane' ≡ lane)
 Asks before (Current lane) (request.Current lane') = lane' ≡ lane
 Asks before (LevelLine number level) (request.Reload number' taken) =
     (number' ≡ number) × (taken ≡ setting.Level level)
+Asks before (Targets number text) (request.Reload number' taken) =
+    (number' ≡ number) × ReadsSetting (env_reading text.now) (Ok taken)
 Asks before l r = ⊥
 
 -- a fact holds of nothing
@@ -315,6 +334,7 @@ stack_word Pair = codes "pair"
 stack_word Nested = codes "nested"
 stack_word Veto = codes "veto"
 stack_word AbsentStack = codes "absent"
+stack_word Directives = codes "directives"
 
 -- the names of a stack's recorders, innermost first
 abbrev pub recorders_of : StackName → List (List ℕ)
@@ -323,6 +343,7 @@ recorders_of Pair = codes "a" ∷ codes "b" ∷ []
 recorders_of Nested = codes "base" ∷ codes "deep" ∷ []
 recorders_of Veto = codes "base" ∷ codes "warn" ∷ []
 recorders_of AbsentStack = codes "base" ∷ []
+recorders_of Directives = codes "base" ∷ codes "chosen" ∷ []
 
 -- the words of the first line
 abbrev pub first_words : StackName → List (List ℕ)

@@ -7,7 +7,7 @@ use Rattle.span_core.specs.declared.level.LevelFilter.{LevelFilter}
 use Rattle.span_core.specs.declared.level.TheConstants.LevelFilter.{INFO, TRACE, WARN}
 use Rattle.span_dispatch.specs.Cache.{KeptCallsites, no_callsite}
 use Rattle.span_dispatch.specs.Contract.{SubscriberOf}
-use Rattle.span_dispatch.specs.Fixed.{RunsBy, kept_at}
+use Rattle.span_dispatch.specs.Fixed.{kept_at}
 use Rattle.span_dispatch.specs.Outcome.{OutcomeAt}
 use Rattle.span_dispatch.specs.Recorder.{RecorderState, new_recorder}
 use Rattle.span_dispatch.specs.Serve.{IsReady, Served, kept_by, stack_of}
@@ -17,6 +17,7 @@ use Rattle.span_dispatch.specs.declared.recorded.Recorded.{Recorded}
 use Rattle.span_dispatch.specs.declared.request.Answer.{Answer}
 use Rattle.span_dispatch.specs.declared.request.Request.{Request}
 use Rattle.span_filters.specs.Level.{level_answers}
+use Rattle.span_filters.specs.Setting.{setting_answers}
 use Rattle.span_stacks.specs.Filtered.{IsNumber, filter_of, id_of, layer_of}
 use Rattle.span_stacks.specs.Layered.{inner_of, outer_of}
 use Rattle.span_layers.specs.Number.{filters_in}
@@ -28,10 +29,13 @@ use Rattle.span_store.specs.declared.limits.Limits.{Limits}
 use Rattle.span_registry.specs.Form.{Absent, Terminal, Base, Filtered, Form, InPair, Leaf, OnSubscriber, Parts}
 use Rattle.span_registry.specs.Position.{Here, Inner, Outer, Position, Under}
 use Rattle.span_script.specs.Mute.{mute_answers}
+use Rattle.span_script.specs.Runs.{RunsBySettings}
 use Rattle.span_script.specs.declared.mute.Mute.{Mute}
 use Rattle.span_script.specs.declared.mute_veto.MuteVeto.{MuteVeto}
 use Rattle.span_script.specs.declared.stack_name.StackName.{StackName}
-use Rattle.span_script.specs.declared.stack_name.StackName.TheVariants.{Absent as AbsentStack, Nested, Pair, Plain, Veto}
+use Rattle.span_script.specs.declared.stack_name.StackName.TheVariants.{Absent as AbsentStack, Directives, Nested, Pair, Plain, Veto}
+use Rattle.span_targets.specs.declared.setting.Setting.{Setting}
+use Rattle.span_targets.specs.declared.setting.Setting.TheVariants.{Level}
 
 -- the form of a recorder
 abbrev pub leaf : Form
@@ -41,7 +45,8 @@ leaf = Leaf true open_answers
 -- outside it `b`, which info and what is less verbose pass. Nested: `base`, and outside it `deep`,
 -- which those levels pass, where the event isn't muted. Veto: `base`, outside it `warn`, which
 -- warnings and errors pass, and outside these two leaves that veto, one muted events and the outer
--- one what is more verbose than info. Absent: an absent layer, and outside it `base`
+-- one what is more verbose than info. Absent: an absent layer, and outside it `base`. Directives:
+-- `base`, and outside it `chosen`, which every level passes until its filter takes another setting
 abbrev pub form_of : StackName → Form
 form_of Plain = Parts OnSubscriber leaf (Terminal Base)
 form_of Pair =
@@ -57,6 +62,9 @@ form_of Veto =
     (Parts OnSubscriber (Filtered (Some 0) (level_answers WARN) leaf)
     (Parts OnSubscriber leaf (Terminal Base))))
 form_of AbsentStack = Parts OnSubscriber leaf (Parts OnSubscriber (Terminal Absent) (Terminal Base))
+form_of Directives =
+    Parts OnSubscriber (Filtered (Some 0) (setting_answers (Level TRACE)) leaf)
+    (Parts OnSubscriber leaf (Terminal Base))
 
 -- where a stack's recorders stand, innermost first
 abbrev pub places_of : StackName → List Position
@@ -65,6 +73,7 @@ places_of Pair = Outer (Inner (Under Here)) ∷ Outer (Outer (Under Here)) ∷ [
 places_of Nested = Inner (Outer Here) ∷ Outer (Under (Under Here)) ∷ []
 places_of Veto = Inner (Inner (Inner (Outer Here))) ∷ Inner (Inner (Outer (Under Here))) ∷ []
 places_of AbsentStack = Outer Here ∷ []
+places_of Directives = Inner (Outer Here) ∷ Outer (Under Here) ∷ []
 
 -- how many filters it has
 abbrev pub filters_of : StackName → ℕ
@@ -73,6 +82,7 @@ filters_of Pair = 2
 filters_of Nested = 2
 filters_of Veto = 1
 filters_of AbsentStack = 0
+filters_of Directives = 1
 
 -- a registry may have these limits: each is at least 1
 pub record ArePositive (limits : Limits) : Type 0 where
@@ -90,8 +100,8 @@ start_of limits stack = record (new_registry limits) { filters = filters_of stac
 abbrev pub Serves : Limits → StackName → List Request → List Answer → List (List Recorded) → Type 0
 Serves limits stack requests answers kept =
     (made : List (List OutcomeAt)) × (memory : KeptCallsites) × (after : RegistryState)
-    × RunsBy (form_of stack) requests answers made (Some no_callsite) (start_of limits stack)
-    memory after × (kept ≡ map (kept_at made) (places_of stack))
+    × RunsBySettings (form_of stack) requests answers made (Some no_callsite)
+    (start_of limits stack) memory after × (kept ≡ map (kept_at made) (places_of stack))
 
 -- there is room on the stack for all of the layer's filters
 pub record HasRoom {L S : Type 0} (registry : S → RegistryState) (has_form : L → Form → Type 0)
@@ -107,12 +117,12 @@ pub record BeginsPlain (limits : Limits) (x : Layered RecorderState RegistryStat
   pub base : outer_of x ≡ new_recorder
   pub registry : inner_of x ≡ start_of limits Plain
 
--- a new recorder under the filter of this number, which passes levels up to this one
-pub record BeginsUnder (n : ℕ) (most : LevelFilter)
-    (x : FilteredLayer RecorderState LevelFilter) : Type 0 where
-  pub number : IsNumber (id_of x) (Some n)
-  pub level : filter_of x ≡ most
-  pub recorder : layer_of x ≡ new_recorder
+-- a new recorder under this filter, which has this number
+pub record BeginsUnder {F : Type 0} (n : ℕ) (own : F) (x : FilteredLayer RecorderState F) : Type 0
+  where
+    pub number : IsNumber (id_of x) (Some n)
+    pub filter : filter_of x ≡ own
+    pub recorder : layer_of x ≡ new_recorder
 
 -- two new recorders, each under its level, on the first registry
 pub record BeginsPair (limits : Limits)
@@ -155,6 +165,15 @@ pub record BeginsAbsent (limits : Limits)
   pub base : outer_of x ≡ new_recorder
   pub absent : outer_of (inner_of x) ≡ None
   pub registry : inner_of (inner_of x) ≡ start_of limits AbsentStack
+
+-- a new recorder on the first registry, and outside it one under a filter by settings, which begins
+-- with the level trace
+pub record BeginsDirectives (limits : Limits)
+    (x : Layered (FilteredLayer RecorderState Setting)
+    (Layered RecorderState RegistryState)) : Type 0 where
+  pub base : outer_of (inner_of x) ≡ new_recorder
+  pub chosen : BeginsUnder 0 (Level TRACE) (outer_of x)
+  pub registry : inner_of (inner_of x) ≡ start_of limits Directives
 
 -- a stack was put in use, with nothing kept yet, and then, if it was ready, it served these
 -- requests exactly so

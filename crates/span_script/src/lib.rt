@@ -15,9 +15,11 @@ mod reply;
 mod run_fault;
 mod script;
 mod script_stack;
+mod scripted;
 mod site;
 mod stack_name;
 mod stacks;
+mod unasked;
 mod way;
 
 pub use fault::{ReadFault, ScriptFault, WrongLine};

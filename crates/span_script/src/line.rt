@@ -3,7 +3,7 @@ ghost use Rattle.std.specs.Prelude.{◌≡◌, ◌<◌, ◌∷◌, ⊤, codes, I
 ghost use Rattle.std.specs.Char.{is_ascii_lowercase};
 ghost use Rattle.std.specs.List.{list_all};
 ghost use Rattle.span_script.specs.Misfit.{IsMisfit, IsNoFirst};
-ghost use Rattle.span_script.specs.Script.{digit, is_keyword, is_label, is_letter_or_digit, lane_words, level_word, mute_words, parent_words, tail_words, texts_in, word_of, words_of, IsBehind, IsDigit, IsLaneAndName, IsLater, IsLine, IsName, IsParentName, IsTail, Spells};
+ghost use Rattle.span_script.specs.Script.{digit, has_return, is_keyword, is_label, is_letter_or_digit, is_text, lane_words, level_word, mute_words, parent_words, tail_words, texts_in, word_of, words_of, IsBehind, IsDigit, IsLaneAndName, IsLater, IsLine, IsName, IsParentName, IsTail, Spells};
 
 use crate::misfit::{Misfit, Taken, end, first, misfit_of};
 use crate::reason::Reason;
@@ -67,6 +67,9 @@ pub enum Line<'a> {
     Current(Lane),
     /// `level F NAME`: the number of a filter, from 0 to 9, and the level that it is set to.
     Level(u32, LevelFilter),
+    /// `targets F TEXT`: the number of a filter, from 0 to 9, and the text of the directives that
+    /// it is set to.
+    Targets(u32, &'a str),
 }
 
 impl<'a> Line<'a> {
@@ -101,6 +104,7 @@ impl<'a> Line<'a> {
             "enabled" => enabled(behind),
             "current" => current(behind),
             "level" => set_level(behind),
+            "targets" => set_targets(behind),
             _ => Err(misfit_of(words, Reason::UnknownWord)),
         }
     }
@@ -187,6 +191,18 @@ fn set_level<'a>(words: &[&'a str]) -> Result<Line<'a>, Misfit>
     let (level, words) = level(words)?;
     end(words)?;
     Ok(Line::Level(number, level))
+}
+
+/// The line that the words behind `targets` make.
+fn set_targets<'a>(words: &[&'a str]) -> Result<Line<'a>, Misfit>
+    ensures spelled { IfOk result (λ line. codes "targets" ∷ texts_in words.now ≡ words_of line) }
+    ensures line { IfOk result IsLine }
+    ensures fault { IfErr result (IsMisfit (IsBehind (codes "targets")) (texts_in words.now)) }
+{
+    let (number, words) = number(words)?;
+    let (text, words) = text(words)?;
+    end(words)?;
+    Ok(Line::Targets(number, text))
 }
 
 /// The lane and the name that the words are.
@@ -307,6 +323,21 @@ fn level<'w, 'a>(words: &'w [&'a str]) -> Taken<'w, 'a, LevelFilter>
     Ok((level, behind))
 }
 
+/// The text that the first word is. A label is one too.
+fn text<'w, 'a>(words: &'w [&'a str]) -> Taken<'w, 'a, &'a str>
+    ensures spelled { IfOk result (λ t. texts_in words.now ≡ t.0.now ∷ texts_in t.1.now) }
+    ensures text { IfOk result (λ t. IsTrue (is_text t.0.now)) }
+    ensures fault { IfErr result (IsNoFirst (λ text. IsTrue (is_text text)) (λ text. text)
+        Reason.NotLabel (texts_in words.now)) }
+{
+    let (word, behind) = first(words)?;
+    if is_text(word) {
+        Ok((word, behind))
+    } else {
+        Err(misfit_of(words, Reason::NotLabel))
+    }
+}
+
 /// The name that the first word is.
 fn span_name<'w, 'a>(words: &'w [&'a str]) -> Taken<'w, 'a, Name<'a>>
     ensures spelled { IfOk result (λ t. texts_in words.now ≡ word_of t.0 ∷ texts_in t.1.now) }
@@ -336,6 +367,19 @@ fn label<'w, 'a>(words: &'w [&'a str]) -> Taken<'w, 'a, &'a str>
     } else {
         Err(misfit_of(words, Reason::NotLabel))
     }
+}
+
+/// The word isn't empty, and has no carriage return.
+fn is_text(word: &str) -> bool
+    ensures { result ≡ is_text word.now }
+{
+    !word.is_empty() && !has_return(word)
+}
+
+fn has_return(word: &str) -> bool
+    ensures { result ≡ has_return word.now }
+{
+    word.bytes().any(|byte| byte == b'\r')
 }
 
 /// The word is made as a label is, and has no other meaning.

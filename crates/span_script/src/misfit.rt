@@ -1,8 +1,7 @@
 //! Words that can't be read: which of them is wrong, and why.
 ghost use Rattle.std.specs.Prelude.{◌≡◌, ◌≤◌, ◌<◌, ◌+◌, ◌-◌, ◌^◌, ◌∷◌, [], false, length, take, IfOk, IfErr, MatchOption};
-ghost use Rattle.std.specs.List.{list_any};
-ghost use Rattle.span_script.specs.Misfit.{column_after, column_of, is_return, IsFault, IsReturnAt, IsSaid};
-ghost use Rattle.span_script.specs.Script.{texts_in};
+ghost use Rattle.span_script.specs.Misfit.{column_after, column_of, IsFault, IsReturnAt, IsSaid};
+ghost use Rattle.span_script.specs.Script.{has_return, texts_in};
 
 use crate::reason::Reason;
 
@@ -87,7 +86,7 @@ fn fault(word: &str, reason: Reason) -> (usize, Reason)
 
 /// Where the first carriage return of a word stands.
 fn return_in(word: &str) -> Option<usize>
-    ensures { MatchOption result (list_any is_return word.now ≡ false)
+    ensures { MatchOption result (has_return word.now ≡ false)
         (λ offset. (offset < length word.now) × IsReturnAt word.now offset) }
 {
     for (offset, byte) in word.as_bytes().iter().enumerate() {

@@ -47,7 +47,7 @@ pub fn run_with<R: Read, W: Write>(
     ensures too_long { RefusesLong (R.remaining reader.old) result writer.old writer.new }
 {
     let bytes = read_script(alloc, reader)?;
-    // What isn't text becomes a character that no line has.
+    // What isn't text becomes a character that no line has outside its directives.
     let text = String::from_utf8_lossy(alloc, &bytes)?;
     let output = output_of(alloc, limits, text.as_str())?;
     write_output(writer, output.as_str())

@@ -1,4 +1,5 @@
 //! Why a line is wrong.
+use span_targets::WrongDirective;
 use thiserror::Error;
 
 /// Why a line of a script is wrong, at a column of it. Its words stand between single spaces.
@@ -34,4 +35,7 @@ pub enum Reason {
     /// The label that the line declares is taken.
     #[error("an earlier line declares this label")]
     DeclaredBefore,
+    /// The text of directives that begins at the column has a wrong one: this is its first.
+    #[error("{0}")]
+    Directive(WrongDirective),
 }

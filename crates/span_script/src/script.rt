@@ -1,8 +1,8 @@
 //! A script: its lines, and the requests that they ask for.
 ghost use Rattle.std.specs.Prelude.{◌≡◌, ◌∷◌, [], ◌++◌, ◌<◌, ◌^◌, IfNone, IfOk, IfErr, OnOk, IfSome};
-ghost use Rattle.span_script.specs.Fault.{Blames, IsLabelFaultAt, IsScriptFault, IsTakenAt, IsWrongFor};
+ghost use Rattle.span_script.specs.Fault.{Blames, IsLineFaultAt, IsScriptFault, IsTakenAt, IsUnasked, IsWrongFor};
 ghost use Rattle.span_script.specs.Misfit.{column_after};
-ghost use Rattle.span_script.specs.Reason.{first_reason, names_of, names_of_parent, IsUndeclared};
+ghost use Rattle.span_script.specs.Reason.{first_reason, names_of_parent, IsUndeclared};
 ghost use Rattle.span_script.specs.Script.{cut, lines_of, mute_values, words_of, read_in, requests_of, stack_of, texts_in, values_in, Asks, Declares, HoldsOfNone, IsLine, IsScript, IsSpelled, Means, MeansParent, ReadsText};
 
 use crate::fault::{ScriptFault, WrongLine};
@@ -10,6 +10,7 @@ use crate::line::{Line, MuteField, Name, ParentName};
 use crate::misfit::column_after;
 use crate::reason::Reason;
 use crate::stack_name::StackName;
+use crate::unasked::{Unasked, directives};
 use span_core::{FieldValue, Id, Lane};
 use span_dispatch::{Request, Which, WhichParent};
 use span_targets::Setting;
@@ -46,7 +47,8 @@ impl<'a> Script<'a> {
     /// The script that a text spells.
     ///
     /// Where it is none, the fault is `Wrong`, with its first line that is wrong and why it is.
-    /// A line's words are looked at from the left, and its labels once its words are right.
+    /// A line's words are looked at from the left, and its labels and directives once its words
+    /// are right. Directives are never given back.
     pub fn parse(alloc: Global, text: &'a str) -> Result<Script<'a>, ScriptFault>
         ensures script { IfOk result IsScript }
         ensures spelled { IfOk result (λ s. IsSpelled text.now (stack_of s) (lines_of s)) }
@@ -94,9 +96,15 @@ impl<'a> Script<'a> {
         }
     }
 
-    /// Adds a line. Where it names what no line before it declares, or declares what one does,
-    /// the line of this number is wrong.
-    fn add(&mut self, line: Line<'a>, words: &[&str], number: u64) -> Result<(), ScriptFault>
+    /// Adds a line. Where it names what no line before it declares, or declares what one does, or
+    /// its text is wrong, the line of this number is wrong.
+    fn add(
+        &mut self,
+        alloc: Global,
+        line: Line<'a>,
+        words: &[&str],
+        number: u64,
+    ) -> Result<(), ScriptFault>
         requires script { IsScript self.old }
         requires line { IsLine line }
         requires words { texts_in words.now ≡ words_of line }
@@ -105,14 +113,15 @@ impl<'a> Script<'a> {
         ensures stack { OnOk result (stack_of self.new ≡ stack_of self.old) }
         ensures lines { OnOk result (lines_of self.new ≡ lines_of self.old ++ line.entry ∷ []) }
         ensures fault { IfErr result
-            (Blames number (IsLabelFaultAt (lines_of self.old) line.entry (texts_in words.now))) }
+            (Blames number (IsLineFaultAt (lines_of self.old) line.entry (texts_in words.now))) }
     {
-        let request = match self.asked(line) {
+        let request = match self.asked(alloc, line) {
             Ok(request) => request,
-            Err(place) => {
+            Err(Unasked::At(place, reason)) => {
                 let column = column_after(&words[..place]);
-                return Err(wrong(number, column, Reason::Undeclared));
+                return Err(wrong(number, column, reason));
             }
+            Err(Unasked::Memory) => return Err(ScriptFault::Memory),
         };
         self.declare(line, words, number)?;
         self.lines.push(line)?;
@@ -145,13 +154,12 @@ impl<'a> Script<'a> {
         }
     }
 
-    /// The request that a line asks for, if earlier lines declare what it names. Else the place
-    /// of the first word that names what they don't.
-    fn asked(&self, line: Line<'a>) -> Result<Request<'static>, usize>
+    /// The request that a line asks for, if earlier lines declare what it names, and its text is
+    /// right. Else what is not: the first of its names, or its text.
+    fn asked(&self, alloc: Global, line: Line<'a>) -> Result<Request<'static>, Unasked>
         requires { IsScript self.now }
         ensures request { IfOk result (Asks (lines_of self.now) line.entry) }
-        ensures none { IfErr result (λ _. HoldsOfNone (Asks (lines_of self.now) line.entry)) }
-        ensures place { IfErr result (IsUndeclared (lines_of self.now) (names_of line.entry)) }
+        ensures fault { IfErr result (IsUnasked (lines_of self.now) line.entry) }
     {
         match line {
             Line::New(lane, site, _, parent) => {
@@ -183,6 +191,7 @@ impl<'a> Script<'a> {
             Line::Enabled(lane, site) => Ok(Request::Enabled(lane, site)),
             Line::Current(lane) => Ok(Request::Current(lane)),
             Line::Level(number, level) => Ok(Request::Reload(number, Setting::Level(level))),
+            Line::Targets(number, text) => Ok(Request::Reload(number, directives(alloc, text)?)),
         }
     }
 
@@ -250,7 +259,7 @@ fn next<'a>(
         },
         Some(mut script) => match Line::of(&words) {
             Ok(line) => {
-                script.add(line, &words, number)?;
+                script.add(alloc, line, &words, number)?;
                 Ok(Some(script))
             }
             Err(misfit) => Err(wrong(number, misfit.column(&words), misfit.reason)),

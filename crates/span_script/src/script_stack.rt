@@ -11,7 +11,7 @@ ghost use Rattle.span_script.specs.declared.stack_name.StackName.TheVariants as 
 
 use crate::run_fault::RunFault;
 use crate::script::Script;
-use crate::stacks::{Absent, Nested, Pair, Plain, Veto, text_of_one, text_of_two};
+use crate::stacks::{Absent, Directives, Nested, Pair, Plain, Veto, text_of_one, text_of_two};
 use span_dispatch::Answer;
 use std::alloc::Global;
 
@@ -154,5 +154,29 @@ impl ScriptStack for Absent {
         answers: &[Answer],
     ) -> Result<String, RunFault> {
         text_of_one(alloc, script, answers, self.outer())
+    }
+}
+
+impl ScriptStack for Directives {
+    ghost name = { stack_name.Directives };
+
+    ghost sections = { λ x.
+        (codes "base", (outer_of (inner_of x)).notices)
+        ∷ (codes "chosen", (layer_of (outer_of x)).notices) ∷ [] };
+
+    ghost whole = { λ x.
+        ((outer_of (inner_of x)).failed ≡ false) × ((layer_of (outer_of x)).failed ≡ false) };
+
+    ghost named = { λ x. refl };
+
+    fn text(
+        &self,
+        alloc: Global,
+        script: &Script<'_>,
+        answers: &[Answer],
+    ) -> Result<String, RunFault> {
+        let base = self.inner().outer();
+        let chosen = self.outer().layer();
+        text_of_two(alloc, script, answers, ("base", "chosen"), base, chosen)
     }
 }

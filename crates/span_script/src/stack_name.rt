@@ -19,6 +19,8 @@ pub enum StackName {
     Veto,
     /// `absent`, with the one recorder `base`.
     Absent,
+    /// `directives`, with the recorders `base` and `chosen`.
+    Directives,
 }
 
 impl StackName {
@@ -52,6 +54,7 @@ fn stack_name<'w, 'a>(words: &'w [&'a str]) -> Taken<'w, 'a, StackName>
         "nested" => StackName::Nested,
         "veto" => StackName::Veto,
         "absent" => StackName::Absent,
+        "directives" => StackName::Directives,
         _ => return Err(misfit_of(words, Reason::UnknownWord)),
     };
     Ok((stack, behind))

@@ -5,7 +5,7 @@ ghost use Rattle.span_core.specs.declared.level.TheConstants.LevelFilter.{INFO};
 ghost use Rattle.span_stacks.specs.Layered.{inner_of, outer_of};
 ghost use Rattle.span_script.specs.Printed.{Gives, GivesShared, IsPrinted, PrintsInUse};
 ghost use Rattle.span_script.specs.Script.{lines_of, stack_of};
-ghost use Rattle.span_script.specs.Stacks.{ArePositive, BeginsAbsent, BeginsNested, BeginsPair, BeginsPlain, BeginsVeto, BeginsWarned, HasRoom};
+ghost use Rattle.span_script.specs.Stacks.{ArePositive, BeginsAbsent, BeginsDirectives, BeginsNested, BeginsPair, BeginsPlain, BeginsVeto, BeginsWarned, HasRoom};
 ghost use Rattle.span_stacks.specs.Attach.{Attaches};
 ghost use Rattle.span_store.specs.Store.{IsFresh};
 
@@ -15,6 +15,7 @@ use crate::reply::{Section, text_of};
 use crate::run_fault::RunFault;
 use crate::script::Script;
 use crate::script_stack::ScriptStack;
+use crate::scripted::Scripted;
 use crate::stack_name::StackName;
 use crate::way::{Alone, Way};
 use span_core::LevelFilter;
@@ -22,6 +23,7 @@ use span_dispatch::{Answer, Recorder};
 use span_layers::Layer;
 use span_registry::{Limits, Registry, Subscriber};
 use span_stacks::{Filtered, LayerExt, Layered, SubscriberExt};
+use span_targets::Setting;
 use std::alloc::Global;
 
 /// A recorder under a level.
@@ -44,6 +46,9 @@ pub(crate) type Veto = Layered<LevelFilter, Layered<MuteVeto, Warned>>;
 
 /// The stack `absent`: a layer that is absent, and outside it a recorder.
 pub(crate) type Absent = Layered<Recorder, Layered<Option<Recorder>, Registry>>;
+
+/// The stack `directives`: a recorder, and outside it one under what its filter is set to.
+pub(crate) type Directives = Layered<Filtered<Recorder, Setting>, Plain>;
 
 /// What a script prints, where the stack that it names serves its requests.
 pub(crate) fn served_text(
@@ -81,6 +86,7 @@ pub(crate) fn text_by<W: Way>(
         StackName::Nested => text_of_stack(way, alloc, script, nested(alloc, limits)),
         StackName::Veto => text_of_stack(way, alloc, script, veto(alloc, limits)),
         StackName::Absent => text_of_stack(way, alloc, script, absent(alloc, limits)),
+        StackName::Directives => text_of_stack(way, alloc, script, directives(alloc, limits)),
     }
 }
 
@@ -164,23 +170,38 @@ pub(crate) fn absent(alloc: Global, limits: Limits) -> Absent
     put(below, Recorder::new(alloc))
 }
 
+/// The stack `directives`.
+pub(crate) fn directives(alloc: Global, limits: Limits) -> Directives
+    requires { ArePositive limits }
+    ensures { BeginsDirectives limits result }
+{
+    let chosen = Recorder::new(alloc).with_filter(Setting::Level(LevelFilter::TRACE));
+    put(plain(alloc, limits), chosen)
+}
+
 /// What a script prints, where this stack serves its requests in this way.
-fn text_of_stack<W: Way, S: ScriptStack + Subscriber + Drop>(
+///
+/// It names no script, since requests have parts that live for good: where a stack has some too,
+/// the borrow checker follows no call with both.
+fn text_of_stack<'a, W: Way, A: Scripted<'a>, S: ScriptStack + Subscriber + Drop>(
     way: W,
     alloc: Global,
-    script: &Script<'_>,
+    scripted: &A,
     stack: S,
 ) -> Result<(String, W::Left), RunFault>
     requires usable { S.usable stack }
     requires fresh { IsFresh (S.registry stack) }
     ensures alone { IfOk result (λ r. W.alone →
-        PrintsInUse S.Subscriber S.sections S.whole script.now stack (string_bytes r.0)) }
-    ensures shared { IfOk result (λ r. GivesShared S.name script.now (string_bytes r.0)) }
+        PrintsInUse S.Subscriber S.sections S.whole (A.held scripted.now) stack
+        (string_bytes r.0)) }
+    ensures shared { IfOk result (λ r.
+        GivesShared S.name (A.held scripted.now) (string_bytes r.0)) }
     ensures left { IfOk result (λ r. W.is_left r.1) }
     ensures fault { IfErr result (λ fault. fault ≡ RunFault.Memory) }
 {
-    let (answers, dispatch, left) = way.serve(alloc, stack, script.requests())?;
-    let text = dispatch.stack().text(alloc, script, &answers)?;
+    let lent = scripted.script();
+    let (answers, dispatch, left) = way.serve(alloc, stack, lent.requests())?;
+    let text = dispatch.stack().text(alloc, lent, &answers)?;
     Ok((text, left))
 }
 

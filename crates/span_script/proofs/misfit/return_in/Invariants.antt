@@ -1,6 +1,6 @@
 use Rattle.std.proofs.Common.{◌≡◌, false, take}
 use Rattle.std.specs.List.{list_any}
-use Rattle.span_script.specs.Misfit.{is_return}
+use Rattle.span_script.specs.Script.{is_return}
 use Rattle.span_script.proofs.misfit.return_in.Given as goal
 
 -- none of the characters so far is a carriage return

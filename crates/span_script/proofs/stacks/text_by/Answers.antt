@@ -3,13 +3,16 @@ use Rattle.span_dispatch.specs.Recorder.{RecorderState, recorder_steps}
 use Rattle.span_dispatch.specs.Serve.{kept_by, stack_of}
 use Rattle.span_dispatch.specs.declared.recorded.Recorded.{Recorded}
 use Rattle.span_filters.specs.Level.{level_answers}
+use Rattle.span_filters.specs.Setting.{setting_answers}
 use Rattle.span_stacks.specs.Filtered.{layer_of}
 use Rattle.span_stacks.specs.Layered.{inner_of, outer_of}
 use Rattle.span_registry.specs.Reload.{unreloaded}
 use Rattle.span_registry.specs.Position.{Here, Inner, Outer, Under}
 use Rattle.span_script.proofs.Gives.{gives, one_ok}
-use Rattle.span_script.proofs.Honest.{honest_absent, honest_nested, honest_pair, honest_plain, honest_veto, level_set, mute_kept, stays_absent, stays_nested}
-use Rattle.span_script.proofs.Honest.{stays_pair, stays_plain, stays_veto, used_absent, used_nested, used_pair, used_veto}
+use Rattle.span_script.proofs.Honest.{honest_absent, honest_directives, honest_nested, honest_pair, honest_plain, honest_veto, level_set, mute_kept}
+use Rattle.span_script.proofs.Honest.{setting_set, stays_absent}
+use Rattle.span_script.proofs.Honest.{stays_directives, stays_nested}
+use Rattle.span_script.proofs.Honest.{stays_pair, stays_plain, stays_veto, used_absent, used_directives, used_nested, used_pair, used_veto}
 use Rattle.span_script.proofs.Steady.{all_kept, ready_at_first, run_of, steady_absent, steady_pair, steady_recorder, steady_registry, steady_stack}
 use Rattle.span_script.proofs.Steady.{steady_under, steady_veto}
 use Rattle.span_script.specs.Mute.{mute_answers}
@@ -18,7 +21,7 @@ use Rattle.span_script.specs.Stacks.{form_of, leaf, start_of}
 use Rattle.span_script.specs.declared.mute.Mute.{Mute}
 use Rattle.span_script.specs.declared.mute_veto.MuteVeto.{MuteVeto}
 use Rattle.span_script.specs.Script.{requests_of}
-use Rattle.span_script.specs.declared.stack_name.StackName.TheVariants.{Absent, Nested, Pair, Plain, Veto}
+use Rattle.span_script.specs.declared.stack_name.StackName.TheVariants.{Absent, Directives, Nested, Pair, Plain, Veto}
 use Rattle.span_script.proofs.stacks.text_by.Goals as goal
 
 pub returns-in-Plain-clause-alone : goal.returns-in-Plain-clause-alone
@@ -136,3 +139,29 @@ returns-in-Absent-clause-alone g c =
     subst (λ name. Gives c.args.limits name script (string_bytes r.0)) (sym c.in-Absent.is ∙ c.stack.ensures)
     (gives c.args.limits Absent script (requests_of script) p.given.0.items p.given.0.items ((codes "base", (outer_of y).notices) ∷ []) _ (string_bytes r.0)
     (served.made, kept_by p.given.1, inner_of (inner_of y), run, refl) refl refl (ap (λ (ns : List Recorded). ns ∷ []) first) refl p.printed))
+
+pub returns-in-Directives-clause-alone : goal.returns-in-Directives-clause-alone
+returns-in-Directives-clause-alone g c =
+    let x = c.directives.result in
+    let script = c.args.script.now in
+    one_ok c.text_of_stack-in-Directives.result _ _ c.text_of_stack-in-Directives.ensures.alone
+    (λ r h alone.
+    let p = h alone in
+    let u = p.served in
+    let begun = stack_of u.begun in
+    let y = stack_of p.given.1 in
+    let steady = steady_stack (steady_under 0 setting_answers setting_set steady_recorder)
+    (steady_stack steady_recorder steady_registry) in
+    let begins = used_directives x begun u.in_use.0 u.in_use.1.0 u.in_use.1.1 c.directives.ensures in
+    let served = u.served (ready_at_first steady
+    (λ z. inner_of (inner_of z)) (form_of Directives)
+    c.args.limits Directives x (stays_directives x c.directives.ensures) c.directives.ensures.registry honest_directives) in
+    let run = run_of steady (λ z. inner_of (inner_of z))
+    (form_of Directives) u.begun p.given.1 (start_of c.args.limits Directives) (stays_directives begun begins) (begins.registry) u.kept served in
+    let first = all_kept (outer_of (inner_of begun)) (outer_of (inner_of y)) _ (served.each (Inner (Outer Here))) (begins.base) p.kept.0 in
+    let second = all_kept (layer_of (outer_of begun))
+    (layer_of (outer_of y)) _ (served.each (Outer (Under Here))) (begins.chosen.recorder) p.kept.1 in
+    subst (λ name. Gives c.args.limits name script (string_bytes r.0)) (sym c.in-Directives.is ∙ c.stack.ensures)
+    (gives c.args.limits Directives script (requests_of script) p.given.0.items
+    p.given.0.items ((codes "base", (outer_of (inner_of y)).notices) ∷ (codes "chosen", (layer_of (outer_of y)).notices) ∷ []) _ (string_bytes r.0)
+    (served.made, kept_by p.given.1, inner_of (inner_of y), run, refl) refl refl (λ i. first i ∷ second i ∷ []) refl p.printed))

@@ -55,8 +55,12 @@ pub returns-in-level-clause-fault : goal.returns-in-level-clause-fault
 returns-in-level-clause-fault c =
     result-behind IsLater (codes "level") _ _ _ c.set_level.result c.in_ok-verb.ensures.taken c.in-level.is c.set_level.ensures.fault
 
+pub returns-in-targets-clause-fault : goal.returns-in-targets-clause-fault
+returns-in-targets-clause-fault c =
+    result-behind IsLater (codes "targets") _ _ _ c.set_targets.result c.in_ok-verb.ensures.taken c.in-targets.is c.set_targets.ensures.fault
+
 pub returns-in_default-clause-fault : goal.returns-in_default-clause-fault
 returns-in_default-clause-fault c = misfit-at IsLater UnknownWord _ _ _ _ c.in_ok-verb.ensures.taken later-some
     (no-later _ c.in_default.not-new c.in_default.not-event c.in_default.not-enter c.in_default.not-exit c.in_default.not-record c.in_default.not-drop
-    c.in_default.not-follows c.in_default.not-clone c.in_default.not-enabled c.in_default.not-current c.in_default.not-level)
+    c.in_default.not-follows c.in_default.not-clone c.in_default.not-enabled c.in_default.not-current c.in_default.not-level c.in_default.not-targets)
     later-expects c.misfit_of.ensures

@@ -1,5 +1,5 @@
 use Rattle.std.proofs.Common.{◌∙◌, ◌++◌, ◌∷◌, [], ap, refl, rules}
-use Rattle.span_script.specs.Fault.{Blames, IsLabelFaultAt}
+use Rattle.span_script.specs.Fault.{Blames, IsLineFaultAt}
 use Rattle.span_script.specs.Script.{lines_of, texts_in}
 use Rattle.span_script.proofs.Growing.{IsScript-add}
 use Rattle.span_script.proofs.Labels.{taken-fault}
@@ -7,7 +7,7 @@ use Rattle.span_script.proofs.script.Script.add.Goals as goal
 
 pub returns-in_err-declare-clause-fault : goal.returns-in_err-declare-clause-fault
 returns-in_err-declare-clause-fault c =
-    let wrong : Blames c.args.number (IsLabelFaultAt (lines_of c.args.self.now) c.args.line (texts_in c.args.words.now)) c.in_err-declare.field-0.0 =
+    let wrong : Blames c.args.number (IsLineFaultAt (lines_of c.args.self.now) c.args.line (texts_in c.args.words.now)) c.in_err-declare.field-0.0 =
     taken-fault c.args.number (lines_of c.args.self.now)
     c.args.line (texts_in c.args.words.now) c.in-Ok.request c.in-Ok.ensures.request c.in_err-declare.field-0.0 c.in_err-declare.ensures.fault in
     search rules

@@ -1,0 +1,38 @@
+-- Stacks whose filters take settings: what is made of a list of requests, said of the form and the
+-- registry alone.
+use Rattle.std.specs.Prelude.{◌≡◌, ℕ, if◌then◌else◌, List, []}
+use Rattle.span_dispatch.specs.Cache.{KeptCallsites}
+use Rattle.span_dispatch.specs.Fixed.{Formed}
+use Rattle.span_dispatch.specs.Outcome.{OutcomeAt}
+use Rattle.span_dispatch.specs.Serve.{Run}
+use Rattle.span_dispatch.specs.declared.request.Answer.{Answer}
+use Rattle.span_dispatch.specs.declared.request.Request.{Request}
+use Rattle.span_filters.specs.Setting.{setting_answers}
+use Rattle.span_store.specs.Store.{RegistryState}
+use Rattle.span_registry.specs.Behaviour.{Behaviour}
+use Rattle.span_registry.specs.Conducts.{filter_numbered}
+use Rattle.span_registry.specs.Form.{Terminal, Filtered, Form, Leaf, Parts}
+use Rattle.span_targets.specs.declared.setting.Setting.{Setting}
+
+-- what a filter answers once it was to take this setting: one that takes it answers by it from then
+-- on, and takes the settings that it took before
+abbrev pub answers_reloaded : Setting → Behaviour → Behaviour
+answers_reloaded s a = if a.takes s then record (setting_answers s) { takes = a.takes } else a
+
+-- the form once the filter with this number was to take this setting
+abbrev pub reloaded_at : ℕ → Setting → Form → Form
+reloaded_at n s (Leaf still a) = Leaf still a
+reloaded_at n s (Filtered m a f) =
+    if filter_numbered m n then Filtered m (answers_reloaded s a) f
+    else Filtered m a (reloaded_at n s f)
+reloaded_at n s (Parts k o i) = Parts k (reloaded_at n s o) (reloaded_at n s i)
+reloaded_at n s (Terminal v) = Terminal v
+
+-- A stack of this form answers the requests with these answers, from one registry and its cached
+-- callsites to the others; these outcomes are made of each request.
+abbrev pub RunsBySettings : Form → List Request → List Answer → List (List OutcomeAt)
+    → KeptCallsites → RegistryState → KeptCallsites → RegistryState → Type 0
+RunsBySettings f requests answers made kept s after t =
+    (g : Form) × Run (λ (r : Formed). r.0) (λ r w. (w, r.1)) (λ r h. h ≡ r.1)
+    (λ r p e lane v q w. q.1 ≡ r.1) (λ r n s q. q.1 ≡ reloaded_at n s r.1) [] requests answers made
+    kept (s, f) after (t, g)
