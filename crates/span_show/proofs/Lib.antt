@@ -1,3 +1,4 @@
 mod Answered
 mod New
 mod Read
+mod Streamed

@@ -1,32 +1,22 @@
 -- A new registry with an honest layer on it is ready.
-use Rattle.std.proofs.Common.{◌≡◌, ◌<◌, ◌≤◌, ◌+◌, ℕ, arith, ap, inr, refl, subst, sym, false}
+use Rattle.std.proofs.Common.{◌≡◌, ◌<◌, ◌+◌, ℕ, arith, ap, refl, subst, sym}
 use Rattle.span_core.specs.declared.filter.TheConstants.FilterId.{LIMIT}
-use Rattle.span_core.specs.declared.level.LevelFilter.{LevelFilter}
 use Rattle.span_dispatch.specs.Serve.{IsReady}
-use Rattle.span_filters.specs.Filter.{settled_answers}
-use Rattle.span_filters.specs.Level.{level_answers}
-use Rattle.span_filters.specs.laws.Level.{level_honest}
 use Rattle.span_stacks.proofs.CallerLemmas.{bare_stands, stands_on}
 use Rattle.span_stacks.specs.Attach.{Attaches}
-use Rattle.span_stacks.specs.Filtered.{IsUnnumbered, filter_of, id_of, layer_of}
 use Rattle.span_stacks.specs.Honest.{IsHonestLayer, IsHonestStack}
 use Rattle.span_layers.specs.Number.{filters_in, numbered}
-use Rattle.span_layers.specs.Observe.{open_answers}
-use Rattle.span_stacks.specs.Stands.{Stands, another, base_form, filtered_form, itself, registry_on, stack_form}
+use Rattle.span_stacks.specs.Stands.{Stands, another, base_form, itself, registry_on, stack_form}
 use Rattle.span_stacks.specs.Verdict.{NumbersStayOwn}
-use Rattle.span_stacks.specs.declared.filtered.Filtered.{Filtered as FilteredLayer}
 use Rattle.span_stacks.specs.declared.layered.Layered.{Layered}
-use Rattle.span_layers.specs.declared.observe.Observer.{Observer}
-use Rattle.span_layers.specs.laws.Leaf.{open_honest}
 use Rattle.span_store.specs.Closes.{HasNoClosing}
 use Rattle.span_store.specs.Store.{RegistryState, Store, new_registry}
 use Rattle.span_store.specs.declared.limits.Limits.{Limits}
 use Rattle.span_registry.proofs.CallerLemmas.{settled_new}
-use Rattle.span_registry.specs.Form.{Base, Filtered, Form, Leaf, OnSubscriber, Parts, Terminal}
+use Rattle.span_registry.specs.Form.{Base, Form, OnSubscriber, Parts, Terminal}
 use Rattle.span_registry.specs.Hooks.{StackSteps}
 use Rattle.span_registry.specs.Reload.{ReloadSteps}
 use Rattle.span_show.specs.Serve.{HasRoomOnNew}
-use Rattle.std.specs.Prelude.{None, Some, true, ⊤}
 
 -- what stands without spans is ready
 pub ready : {S : Type 0} {registry : S → RegistryState} {has_form : S → Form → Type 0}
@@ -56,13 +46,3 @@ never_full l s layer new h full =
     let more : LIMIT < s.filters + filters_in h.form = full h.form h.has in
     let room = h.room in
     omega (arith, none, more, room)
-
--- an observer under a level is honest
-pub levelled_honest : {T : Type 0} (x : FilteredLayer (Observer T) LevelFilter) (layer : Observer T) (level : LevelFilter)
-    → IsUnnumbered x layer level → HasRoomOnNew (filtered_form (settled_answers level_answers) (λ (y : Observer T) f. f ≡ Leaf true open_answers)) x
-levelled_honest x layer level new = record {
-  form = Filtered None (level_answers (filter_of x)) (Leaf true open_answers);
-  has = (new.id, refl, refl);
-  honest = inr (level_honest (filter_of x), (refl, open_honest, λ t. record { enabled = λ m v. refl; event = λ e v. refl }));
-  room = omega arith;
-}

@@ -1,9 +1,9 @@
--- How requests are served on a new registry, with a tree, lines or a timeline outside it.
-use Rattle.std.specs.Prelude.{◌≡◌, ◌≤◌, ⊤, ℕ, List, [], Some, true}
+-- How requests are served on a new registry, with a stream of lines or a timeline outside it.
+use Rattle.std.specs.Prelude.{◌≡◌, ◌≤◌, ⊤, ℕ, List, [], Option, Some, true}
+use Rattle.std.specs.Io.KnownBytes.{Appends}
 use Rattle.std.specs.List.{AllByRecursion}
 use Rattle.span_core.specs.declared.error.TraceError.TheVariants.{OutOfMemory}
 use Rattle.span_core.specs.declared.filter.TheConstants.FilterId.{LIMIT}
-use Rattle.span_core.specs.declared.level.TheConstants.LevelFilter.{TRACE}
 use Rattle.span_dispatch.specs.Alone.{passed_at}
 use Rattle.span_dispatch.specs.Cache.{no_callsite}
 use Rattle.span_dispatch.specs.Contract.{SubscriberOf}
@@ -12,21 +12,20 @@ use Rattle.span_dispatch.specs.declared.dispatch.Dispatch.{Dispatch}
 use Rattle.span_dispatch.specs.declared.request.Answer.TheVariants.{Refused}
 use Rattle.span_dispatch.specs.declared.request.Answer.{Answer}
 use Rattle.span_dispatch.specs.declared.request.Request.{Request}
-use Rattle.span_fmt.specs.Known.{nothing_known}
-use Rattle.span_fmt.specs.Lines as lines
-use Rattle.span_fmt.specs.Serve.{WithObserver, observer_in, observer_position}
-use Rattle.span_fmt.specs.Told.{heard_lines, heard_text}
-use Rattle.span_fmt.specs.Tree as tree
-use Rattle.span_fmt.specs.declared.lines.Lines.{Lines}
-use Rattle.span_fmt.specs.declared.tree.Tree.{Tree}
-use Rattle.span_stacks.specs.Filtered.{filter_of}
+use Rattle.span_fmt.specs.Form.{FormSteps, Gives}
+use Rattle.span_fmt.specs.Outlet.{lost_of, writer_of}
+use Rattle.span_fmt.specs.Stream.{form_of, outlet_of}
+use Rattle.span_fmt.specs.declared.stream.Stream.{Stream}
+use Rattle.span_layers.specs.Observe.{observer_of}
+use Rattle.span_layers.specs.declared.observe.Observer.{Observer}
 use Rattle.span_stacks.specs.Honest.{IsHonestLayer}
 use Rattle.span_stacks.specs.Layered.{inner_of, outer_of}
+use Rattle.span_stacks.specs.declared.layered.Layered.{Layered}
 use Rattle.span_layers.specs.Number.{filters_in}
 use Rattle.span_store.specs.Store.{RegistryState, empty_store}
 use Rattle.span_store.specs.declared.limits.TheConstants.Limits.{MAX}
 use Rattle.span_registry.specs.Form.{Form}
-use Rattle.span_registry.specs.Position.{Heard}
+use Rattle.span_registry.specs.Position.{Here, Outer, Position}
 use Rattle.span_times.specs.Clock.{counts_on, latest_counted}
 use Rattle.span_times.specs.Field.{kept_in}
 use Rattle.span_times.specs.Serving.{KeepsServed, WithTimeline, fields_at, points_at, sites_at, timeline_in, timeline_position}
@@ -52,22 +51,24 @@ pub record HasAllRoom (s : RegistryState) : Type 0 where
   pub empty : s.store ≡ empty_store
   pub limits : s.limits ≡ MAX
 
--- a registry that has all room, and outside it an observer that begins as it should, under the
--- level that passes all
-pub record IsNewUnder {T : Type 0} (Begins : T → Type 0) (x : WithObserver T RegistryState) : Type
-    0 where
-  pub registry : HasAllRoom (inner_of x)
-  pub level : filter_of (outer_of x) ≡ TRACE
-  pub observer : Begins (observer_in x)
+-- a registry, and outside it a stream of lines
+abbrev pub WithStream : Type 0 → Type 0 → Type 0
+WithStream F W = Layered (Observer (Stream F W)) RegistryState
 
--- a tree has written nothing yet
-abbrev pub IsNewTree : Tree → Type 0
-IsNewTree x = tree.text_of x ≡ []
+-- where the stream stands
+abbrev pub stream_position : Position
+stream_position = Outer Here
 
--- a `Lines` has written nothing yet, and knows no span's values
-pub record AreNewLines (x : Lines) : Type 0 where
-  pub text : lines.text_of x ≡ []
-  pub known : lines.known_of x ≡ nothing_known
+module _ {F W : Type 0} where
+  -- the stream in such a stack
+  abbrev pub stream_in : WithStream F W → Stream F W
+  stream_in x = observer_of (outer_of x)
+
+  -- the stream in such a stack has this form and this writer, and has lost no line
+  pub record HasStream (form : F) (writer : W) (x : WithStream F W) : Type 0 where
+    pub has_form : form_of (stream_in x) ≡ form
+    pub has_writer : writer_of (outlet_of (stream_in x)) ≡ writer
+    pub none_lost : lost_of (outlet_of (stream_in x)) ≡ 0
 
 -- a registry that has all room, and outside it a timeline that keeps values and has kept nothing,
 -- whose clock counts from 0
@@ -84,35 +85,40 @@ abbrev pub FoundMemory : Answer → Type 0
 FoundMemory (Refused OutOfMemory) = ⊥
 FoundMemory a = ⊤
 
--- a dispatcher that had cached nothing gave these answers, and memory was refused to none
+-- these are answers of a dispatcher that had cached no callsite, and none is a refusal of memory
 pub record AnswersAll {S : Type 0} (answers : List Answer) (old : Dispatch S) : Type 0 where
   pub unasked : kept_by old ≡ Some no_callsite
   pub memory : AllByRecursion FoundMemory answers
 
--- an observer that began as it should stood outermost while these requests were served, and the
--- text is what is due of all that it was notified of
-pub record IsTextOf {T : Type 0} (Begins : T → Type 0) (due : Heard → List ℕ)
-    (s : SubscriberOf (WithObserver T RegistryState)) (requests : List Request)
-    (text : List ℕ) : Type 0 where
+-- the first stack was put in use and these requests were served on it, and it is the last one then;
+-- memory was refused to none of them
+pub record IsServedOn {S : Type 0} (s : SubscriberOf S) (requests : List Request) (first last : S)
+    : Type 0 where
   pub answers : List Answer
-  pub old : Dispatch (WithObserver T RegistryState)
-  pub new : Dispatch (WithObserver T RegistryState)
-  pub begun : IsNewUnder Begins (stack_of old)
+  pub old : Dispatch S
+  pub new : Dispatch S
+  pub begun : s.registered first (stack_of old)
   pub answered : AnswersAll answers old
   pub served : Served s.registry s.with_registry s.has_form s.stepped s.reloaded s.hears s.acts_at
       requests answers old new
-  pub written : text ≡ due (passed_at observer_position (flat served.made))
+  pub ended : last ≡ stack_of new
 
--- the text is the lines of a tree that stood outermost while these requests were served, in order
-abbrev pub IsTreeOf : SubscriberOf (WithObserver Tree RegistryState) → List Request → List ℕ
-    → Type 0
-IsTreeOf s = IsTextOf IsNewTree heard_text s
-
--- the text is the lines of a `Lines` that stood outermost while these requests were served, one for
--- each event, in order
-abbrev pub AreLinesOf : SubscriberOf (WithObserver Lines RegistryState) → List Request → List ℕ
-    → Type 0
-AreLinesOf s = IsTextOf AreNewLines (heard_lines nothing_known) s
+-- A stream stood outermost while these requests were served, on a registry that had all room. It
+-- lost no line: what its writer holds grew by exactly what the form gives of all that the stream
+-- was notified of.
+pub record IsStreamed {F W : Type 0} (gives : FormSteps F) (s : SubscriberOf (WithStream F W))
+    (contents : W → Option (List ℕ)) (form : F) (requests : List Request) (writer after : W)
+    : Type 0 where
+  pub first : WithStream F W
+  pub last : WithStream F W
+  pub room : HasAllRoom (inner_of first)
+  pub begun : HasStream form writer first
+  pub on : IsServedOn s requests first last
+  pub text : List ℕ
+  pub given : Gives gives form (passed_at stream_position (flat on.served.made)) text
+      (form_of (stream_in last))
+  pub ended : HasStream (form_of (stream_in last)) after last
+  pub grown : Appends (contents writer) (contents after) text
 
 -- a new timeline stood outermost while these requests were served, and there is a point for each
 -- thing that it was notified of, in order, with what their callsites are called and the fields that

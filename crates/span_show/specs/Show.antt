@@ -1,5 +1,6 @@
 -- What is shown of a script.
-use Rattle.std.specs.Prelude.{◌≡◌, ℕ, List, ◌++◌, Option, String, IfSome, codes, flat_map, map, string_bytes}
+use Rattle.std.specs.Prelude.{◌≡◌, ℕ, List, [], ◌++◌, None, Option, String, IfSome, codes, flat_map, map, string_bytes}
+use Rattle.std.specs.Io.KnownBytes.{Appends}
 use Rattle.std.specs.Str.Lossy.{utf8_lossy}
 use Rattle.std.specs.declared.alloc.Global.{Global}
 use Rattle.span_dispatch.specs.Contract.{SubscriberOf}
@@ -10,14 +11,15 @@ use Rattle.span_export.specs.Json.{AreCompact, Means}
 use Rattle.span_export.specs.Otlp.{AllMean, requests_of}
 use Rattle.span_export.specs.Picture.{IsPicture}
 use Rattle.span_export.specs.declared.otlp.Trace.{Trace}
-use Rattle.span_fmt.specs.declared.lines.Lines as lines
-use Rattle.span_fmt.specs.declared.tree.Tree as tree
-use Rattle.span_fmt.specs.Serve.{WithObserver}
+use Rattle.span_fmt.specs.Forms.{known_by_form, lines_give, tree_gives}
+use Rattle.span_fmt.specs.Known.{nothing_known}
+use Rattle.span_fmt.specs.declared.forms.LinesForm.{LinesForm}
+use Rattle.span_fmt.specs.declared.forms.TreeForm.{TreeForm}
 use Rattle.span_store.specs.Store.{RegistryState}
 use Rattle.span_script.specs.Script.{AskFor, IsSpelled}
 use Rattle.span_script.specs.declared.line.Line.{Line}
 use Rattle.span_script.specs.declared.stack_name.StackName.{StackName}
-use Rattle.span_show.specs.Serve.{AreLinesOf, IsToldOf, IsTreeOf}
+use Rattle.span_show.specs.Serve.{IsStreamed, IsToldOf, WithStream}
 use Rattle.span_show.specs.declared.format.Export.TheVariants.{Chrome, Folded, Otlp, Svg}
 use Rattle.span_show.specs.declared.format.Export.{Export}
 use Rattle.span_show.specs.declared.format.Format.TheVariants.{Lines, Points, Tree}
@@ -41,11 +43,14 @@ format_word (Points Svg) = codes "svg"
 abbrev pub line_of : String Global → List ℕ
 line_of text = string_bytes text ++ codes "\n"
 
--- the trace of a script: the first, of the service `script`, whose clock began with 1970
+-- the trace of a script: the first, of the service `script`, whose clock began with 1970; it has no
+-- parent and no attributes
 pub record IsTrace (trace : Trace) : Type 0 where
   pub id : trace.id ≡ 1
   pub service : string_bytes trace.service ≡ codes "script"
   pub began : trace.began ≡ 0
+  pub parent : trace.parent ≡ None
+  pub attributes : trace.attributes.items ≡ []
 
 -- the spans that closed, each a line that means OpenTelemetry's request for it
 pub record IsOtlp (table : Table) (points : List Point) (text : List ℕ) : Type 0 where
@@ -73,26 +78,37 @@ pub record IsExportOf (s : SubscriberOf (WithTimeline RegistryState Counted)) (f
   pub fields : table.fields.now ≡ taken.fields.items
   pub exported : IsExport format table taken.points.items text
 
-module _ (t : SubscriberOf (WithObserver tree.Tree RegistryState))
-    (l : SubscriberOf (WithObserver lines.Lines RegistryState))
-    (s : SubscriberOf (WithTimeline RegistryState Counted)) where
-  -- what is shown of these requests: what a tree or `Lines` writes of them, or an export of their
-  -- points
-  abbrev pub IsShown : Format → List Request → List ℕ → Type 0
-  IsShown Tree requests text = IsTreeOf t requests text
-  IsShown Lines requests text = AreLinesOf l requests text
-  IsShown (Points format) requests text = IsExportOf s format requests text
+-- Below: a writer, before and after.
+module _ {W : Type 0} (contents : W → Option (List ℕ)) where
+  -- a text was written behind what was there
+  abbrev pub IsWritten : (List ℕ → Type 0) → W → W → Type 0
+  IsWritten Is writer after =
+      (text : List ℕ) × Is text × Appends (contents writer) (contents after) text
 
-  -- the text spells a stack, whichever, and lines; these ask for requests, and this is shown of
-  -- them
-  pub record Shows (format : Format) (text output : List ℕ) : Type 0 where
-    pub stack : StackName
-    pub lines : List Line
-    pub requests : List Request
-    pub spelled : IsSpelled text stack lines
-    pub asked : AskFor lines requests
-    pub shown : IsShown format requests output
+  module _ (t : SubscriberOf (WithStream TreeForm W)) (l : SubscriberOf (WithStream LinesForm W))
+      (s : SubscriberOf (WithTimeline RegistryState Counted)) where
+    -- what is shown of these requests: the lines of a tree or of `Lines`, as they come, or an
+    -- export of their points
+    abbrev pub IsShown : Format → List Request → W → W → Type 0
+    IsShown Tree requests writer after =
+        (form : TreeForm) × IsStreamed tree_gives t contents form requests writer after
+    IsShown Lines requests writer after =
+        (form : LinesForm) × (known_by_form form ≡ nothing_known)
+        × IsStreamed lines_give l contents form requests writer after
+    IsShown (Points format) requests writer after =
+        IsWritten (IsExportOf s format requests) writer after
 
-  -- what is shown of the bytes that a reader gives, if they are known
-  abbrev pub ShowsOf : Format → Option (List ℕ) → List ℕ → Type 0
-  ShowsOf format given output = IfSome given (λ bytes. Shows format (utf8_lossy bytes) output)
+    -- the text spells a stack, whichever, and lines; these ask for requests, and this is shown of
+    -- them
+    pub record Shows (format : Format) (text : List ℕ) (writer after : W) : Type 0 where
+      pub stack : StackName
+      pub lines : List Line
+      pub requests : List Request
+      pub spelled : IsSpelled text stack lines
+      pub asked : AskFor lines requests
+      pub shown : IsShown format requests writer after
+
+    -- what is shown of the bytes that a reader gives, if they are known
+    abbrev pub ShowsOf : Format → Option (List ℕ) → W → W → Type 0
+    ShowsOf format given writer after =
+        IfSome given (λ bytes. Shows format (utf8_lossy bytes) writer after)

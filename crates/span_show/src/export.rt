@@ -37,6 +37,8 @@ fn otlp_text(alloc: Global, points: &[Point], table: Table<'_>) -> Result<String
         id: 1,
         service: String::from_str(alloc, "script")?,
         began: 0,
+        parent: None,
+        attributes: Vec::new(alloc),
     };
     let lines = otlp_lines(alloc, &trace, points, table)?;
     text_of(alloc, &lines)

@@ -28,6 +28,9 @@ pub enum ShowFault {
     /// What is shown can't be written.
     #[error("output failed")]
     Output,
+    /// Lines of what is shown can't be written, or memory was refused for them.
+    #[error("lines were lost: output failed, or out of memory")]
+    Lost,
     /// Memory was refused.
     #[error("out of memory")]
     Memory,
@@ -45,6 +48,7 @@ impl ShowFault {
             | ShowFault::TooLong
             | ShowFault::Input
             | ShowFault::Output
+            | ShowFault::Lost
             | ShowFault::Memory => 1,
         }
     }
@@ -55,7 +59,11 @@ impl ShowFault {
     {
         match self {
             ShowFault::Unopened | ShowFault::TooLong | ShowFault::Input => true,
-            ShowFault::Usage | ShowFault::Wrong(_) | ShowFault::Output | ShowFault::Memory => false,
+            ShowFault::Usage
+            | ShowFault::Wrong(_)
+            | ShowFault::Output
+            | ShowFault::Lost
+            | ShowFault::Memory => false,
         }
     }
 }

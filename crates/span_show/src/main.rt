@@ -42,7 +42,7 @@ fn asked_for(rt: &HostRuntime) -> Option<(Format, String)> {
     Some((format, path))
 }
 
-/// Prints what is shown of the script with this path.
+/// Prints what is shown of the script with this path, lines as they come.
 fn print_shown(rt: &HostRuntime, format: Format, path: &str) -> Result<(), ShowFault> {
     let Ok(mut script) = File::open(rt, path) else {
         return Err(ShowFault::Unopened);
@@ -52,11 +52,8 @@ fn print_shown(rt: &HostRuntime, format: Format, path: &str) -> Result<(), ShowF
     {
         return Err(ShowFault::TooLong);
     }
-    let text = show(rt.alloc(), format, &mut script)?;
-    match print!(rt; "{text}") {
-        Ok(()) => Ok(()),
-        Err(_) => Err(ShowFault::Output),
-    }
+    show(rt.alloc(), format, &mut script, rt.stdout())?;
+    Ok(())
 }
 
 /// Says why nothing is shown, and how the program ends by that.

@@ -1,18 +1,22 @@
-//! Requests, served on a new registry with a tree, with lines or with a timeline outside it.
+//! Requests, served on a new registry with a stream of lines or with a timeline outside it.
 ghost use Rattle.std.specs.List.{AllByRecursion};
-ghost use Rattle.std.specs.Prelude.{◌≡◌, IfErr, IfOk, false, string_bytes};
+ghost use Rattle.std.specs.Prelude.{◌≡◌, ◌⊎◌, IfErr, IfOk, false};
 ghost use Rattle.span_stacks.specs.Layered.{inner_of, outer_of};
-ghost use Rattle.span_show.specs.Serve.{AreLinesOf, IsToldOf, FoundMemory, HasAllRoom, HasRoomOnNew, IsReadyStack, IsTreeOf};
+ghost use Rattle.span_show.specs.Serve.{FoundMemory, HasAllRoom, HasRoomOnNew, IsReadyStack, IsServedOn, IsStreamed, IsToldOf};
 
 use crate::fault::ShowFault;
-use span_core::{LevelFilter, TraceError};
+use span_core::TraceError;
 use span_dispatch::{Answer, Dispatch, Request};
-use span_fmt::{Lines, Tree, WithLines, WithTree, serve_lines, serve_tree};
+use span_fmt::{Form, Stream, laws as written};
 use span_layers::{Layer, Observer};
 use span_registry::{Registry, Subscriber};
-use span_stacks::{LayerExt, Layered, SubscriberExt, laws};
+use span_stacks::{Layered, SubscriberExt, laws};
 use span_times::{Counted, Taken, Timeline, WithTimeline, serve_timed};
 use std::alloc::Global;
+use std::io::Write;
+
+/// A stack, and outside it a stream.
+pub(crate) type WithStream<S, F, W> = Layered<Observer<Stream<F, W>>, S>;
 
 /// Puts an honest layer on a new registry.
 fn put_on_new<L: Layer<Registry> + Drop>(alloc: Global, layer: L) -> Layered<L, Registry>
@@ -52,46 +56,48 @@ fn one_lacks_memory(answers: &[Answer]) -> bool
     false
 }
 
-/// What a tree writes of these requests.
-pub(crate) fn tree_text(alloc: Global, requests: &[Request<'_>]) -> Result<String, ShowFault>
-    ensures tree { IfOk result (λ text. IsTreeOf ⟦<WithTree<Registry> as Subscriber>⟧
-        requests.now (string_bytes text)) }
+/// Serves these requests on a stack with a stream outermost, and answers the stack.
+fn served<S: Subscriber + Drop, F: Form<S> + Drop, W: Write + Drop>(
+    alloc: Global,
+    stack: WithStream<S, F, W>,
+    requests: &[Request<'_>],
+) -> Result<WithStream<S, F, W>, ShowFault>
+    requires usable { ⟦<WithStream<S, F, W> as Subscriber>⟧.usable stack }
+    requires ready { IsReadyStack ⟦<WithStream<S, F, W> as Subscriber>⟧ stack }
+    ensures served { IfOk result
+        (IsServedOn ⟦<WithStream<S, F, W> as Subscriber>⟧ requests.now stack) }
     ensures fault { IfErr result (λ fault. fault ≡ ShowFault.Memory) }
 {
-    let layer = Observer::new(Tree::new(alloc)).with_filter(LevelFilter::TRACE);
-    let mut dispatch = Dispatch::new(alloc, put_on_new(alloc, layer));
-    let Ok(answers) = serve_tree(alloc, &mut dispatch, requests) else {
+    let mut dispatch = Dispatch::new(alloc, stack);
+    let Ok(answers) = dispatch.serve(alloc, requests) else {
         return Err(ShowFault::Memory); // It is refused for nothing else.
     };
     if one_lacks_memory(&answers) {
         return Err(ShowFault::Memory);
     }
-    let tree = dispatch.stack().outer().layer().observer();
-    if tree.failed() {
-        return Err(ShowFault::Memory);
-    }
-    Ok(String::from_str(alloc, tree.text())?)
+    Ok(dispatch.into_stack())
 }
 
-/// What `Lines` writes of these requests.
-pub(crate) fn lines_text(alloc: Global, requests: &[Request<'_>]) -> Result<String, ShowFault>
-    ensures lines { IfOk result (λ text. AreLinesOf ⟦<WithLines<Registry> as Subscriber>⟧
-        requests.now (string_bytes text)) }
-    ensures fault { IfErr result (λ fault. fault ≡ ShowFault.Memory) }
+/// Serves these requests, and hands a writer the lines that a form gives of them, as they come.
+pub(crate) fn stream<F: Form<Registry> + Drop, W: Write + Drop>(
+    alloc: Global,
+    form: F,
+    requests: &[Request<'_>],
+    writer: W,
+) -> Result<W, ShowFault>
+    ensures streamed { IfOk result (λ after. IsStreamed F.gives
+        ⟦<WithStream<Registry, F, W> as Subscriber>⟧ W.contents form requests.now writer after) }
+    ensures fault { IfErr result (λ fault. (fault ≡ ShowFault.Memory) ⊎ (fault ≡ ShowFault.Lost)) }
 {
-    let layer = Observer::new(Lines::new(alloc)).with_filter(LevelFilter::TRACE);
-    let mut dispatch = Dispatch::new(alloc, put_on_new(alloc, layer));
-    let Ok(answers) = serve_lines(alloc, &mut dispatch, requests) else {
-        return Err(ShowFault::Memory); // It is refused for nothing else.
-    };
-    if one_lacks_memory(&answers) {
-        return Err(ShowFault::Memory);
+    written::a_stream_writes_what_it_is_told::<Registry, F, W>();
+    let layer = Observer::new(Stream::new(form, writer));
+    let stack = served(alloc, put_on_new(alloc, layer), requests)?;
+    let (layer, _registry) = stack.into_parts();
+    let stream = layer.into_observer();
+    if stream.failed() {
+        return Err(ShowFault::Lost);
     }
-    let lines = dispatch.stack().outer().layer().observer();
-    if lines.failed() {
-        return Err(ShowFault::Memory);
-    }
-    Ok(String::from_str(alloc, lines.text())?)
+    Ok(stream.into_writer())
 }
 
 /// What a timeline keeps of these requests, on time that is counted.
