@@ -2,7 +2,7 @@
 
 use crate::counter::Counter;
 use tracing_core::LevelFilter;
-use tracing_subscriber::filter::Filtered;
+use tracing_subscriber::filter::{EnvFilter, Filtered};
 use tracing_subscriber::layer::{Layer, Layered};
 use tracing_subscriber::Registry;
 
@@ -14,6 +14,16 @@ pub fn filtered(count: u32) -> Vec<Filtered<Counter, LevelFilter, Registry>> {
     (0..count)
         .map(|_| Counter::new().with_filter(LevelFilter::INFO))
         .collect()
+}
+
+/// A layer that counts, under a filter of directives for so many targets. The last lets by what the workloads make.
+pub fn directed(count: u32) -> Filtered<Counter, EnvFilter, Registry> {
+    let mut text = String::new();
+    for number in 1..count {
+        text.push_str(&format!("my_server::module_{number}=warn,"));
+    }
+    text.push_str("my_server=info");
+    Counter::new().with_filter(EnvFilter::new(text))
 }
 
 /// A list of layers that count.

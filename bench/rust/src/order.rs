@@ -10,6 +10,7 @@ pub enum Stack {
     List(u32),
     Nested(u32),
     Keeper,
+    Directives(u32),
 }
 
 impl Stack {
@@ -26,6 +27,7 @@ impl Stack {
             "filters" => Some(Stack::Filters(layers)),
             "list" => Some(Stack::List(layers)),
             "nested" => Some(Stack::Nested(layers)),
+            "directives" => Some(Stack::Directives(layers)),
             _ => None,
         }
     }

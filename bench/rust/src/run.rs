@@ -46,6 +46,7 @@ fn done(way: Way, order: Order) -> Result<u32, Fault> {
         }
         Stack::Nested(_) => Err(Fault::Line),
         Stack::Keeper => done_with(way, Keeper, order),
+        Stack::Directives(count) => done_with(way, layers::directed(count), order),
     }
 }
 

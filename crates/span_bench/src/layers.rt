@@ -1,6 +1,7 @@
 //! The layers that workloads run on.
 ghost use Rattle.std.specs.Prelude.{◌≡◌, IfOk, vec_len};
 ghost use Rattle.span_bench.specs.Counter.{AreNew, IsNew};
+ghost use Rattle.span_stacks.specs.Filtered.{layer_of};
 ghost use Rattle.span_stacks.specs.Layered.{inner_of, outer_of};
 
 use crate::counter::Counter;
@@ -8,6 +9,7 @@ use crate::fault::Fault;
 use span_core::LevelFilter;
 use span_layers::Observer;
 use span_stacks::{Filtered, LayerExt, Layered};
+use span_targets::EnvFilter;
 use std::alloc::Global;
 
 /// A layer that counts.
@@ -25,6 +27,22 @@ pub fn filtered(alloc: Global, count: u32) -> Result<Vec<Filtered<Counting, Leve
         layers.push(counting().with_filter(LevelFilter::INFO))?;
     }
     Ok(layers)
+}
+
+/// A layer that counts, under a filter of directives for so many targets. The last lets by what
+/// the workloads make.
+pub fn directed(alloc: Global, count: u32) -> Result<Filtered<Counting, EnvFilter>, Fault>
+    ensures { IfOk result (λ layer. IsNew (layer_of layer)) }
+{
+    let mut text = String::new(alloc);
+    for number in 1..count {
+        write!(text, "my_server::module_{number}=warn,")?;
+    }
+    text.push_str("my_server=info")?;
+    match EnvFilter::parse(alloc, text.as_str()) {
+        Ok(filter) => Ok(counting().with_filter(filter)),
+        Err(_) => Err(Fault::Memory), // No directive is wrong.
+    }
 }
 
 /// A list of layers that count.

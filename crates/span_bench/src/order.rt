@@ -19,6 +19,8 @@ pub enum Stack {
     Nested(u32),
     /// One layer that keeps a number with each span.
     Keeper,
+    /// One layer that counts, under a filter of so many directives.
+    Directives(u32),
 }
 
 impl Stack {
@@ -37,8 +39,11 @@ impl Stack {
         if let Some(layers) = name.strip_prefix("list=") {
             return Some(Stack::List(layers.parse::<u32>().ok()?));
         }
-        let layers = name.strip_prefix("nested=")?;
-        Some(Stack::Nested(layers.parse::<u32>().ok()?))
+        if let Some(layers) = name.strip_prefix("nested=") {
+            return Some(Stack::Nested(layers.parse::<u32>().ok()?));
+        }
+        let directives = name.strip_prefix("directives=")?;
+        Some(Stack::Directives(directives.parse::<u32>().ok()?))
     }
 }
 

@@ -41,6 +41,7 @@ event list=16 2 3
 cascade nested=4 2 3
 event nested=16 2 3
 new_and_drop keeper 0 3
+event directives=100 2 3
 event 1 3
 event 2 3
 event 4 3
@@ -135,6 +136,7 @@ pub fn done(rt: &impl Wait, alloc: Global, order: Order) -> Result<u32, Fault>
         }
         Stack::Nested(_) => Err(Fault::Line),
         Stack::Keeper => done_with(rt, alloc, Observer::new(Keeper), order),
+        Stack::Directives(count) => done_with(rt, alloc, layers::directed(alloc, count)?, order),
     }
 }
 
