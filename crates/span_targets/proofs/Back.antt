@@ -24,7 +24,7 @@ use Rattle.span_targets.specs.Names.{Names, naming, nothing}
 use Rattle.span_targets.specs.Targets.{default_of, default_pieces, directives_of, joined, names_of, pieces_of}
 use Rattle.span_targets.specs.Text.{Meaning, alone, assigned, has, level_named, meaning, named_from, reading, sides, unless_wrong, with_meaning, wrong_by}
 use Rattle.span_targets.specs.Text.{wrong_from}
-use Rattle.span_targets.specs.private.Order.{may_precede}
+use Rattle.span_targets.specs.private.Order.{precedes}
 use Rattle.span_targets.specs.declared.directive.Directive.{Directive}
 use Rattle.span_targets.specs.declared.parse.TheConstants.{MAX_DIRECTIVES}
 use Rattle.span_targets.specs.declared.targets.Targets.{Targets}
@@ -142,7 +142,7 @@ either_first : (b : Bool) (l : LevelFilter) (o p : Option LevelFilter)
 either_first true l o p h = ap (λ x. option_or x (Some l)) (h refl)
 either_first false l o p h = refl
 
-over_more : (d : Directive) (ds : List Directive) (m : Names) → list_all (may_precede (target_of d)) (map target_of ds) ≡ true → (o : Option (List ℕ))
+over_more : (d : Directive) (ds : List Directive) (m : Names) → list_all (precedes (target_of d)) (map target_of ds) ≡ true → (o : Option (List ℕ))
     → over ds (naming (Some (target_of d)) (level_by d) m) o ≡ over (d ∷ ds) m o
 over_more d ds m h None = refl
 over_more d ds m h (Some u) =

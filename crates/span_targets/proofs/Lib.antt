@@ -1,4 +1,5 @@
 mod Back
+mod ByLength
 mod Edits
 mod EnvMeaning
 mod Levels

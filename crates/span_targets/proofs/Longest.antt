@@ -11,7 +11,7 @@ use Rattle.span_targets.proofs.Edits.{Sorted, stands}
 use Rattle.span_targets.proofs.Texts.{apart, begun, differs, no_longer, tested}
 use Rattle.span_targets.specs.Directive.{has_target, level_by, listed, named_in, target_of}
 use Rattle.span_targets.specs.Names.{longest}
-use Rattle.span_targets.specs.private.Order.{begins, first_level, may_precede}
+use Rattle.span_targets.specs.private.Order.{begins, first_level, precedes}
 use Rattle.span_targets.specs.declared.directive.Directive.{Directive}
 
 nothing_named : (l : Option LevelFilter) (t : List ℕ) (n : ℕ) → longest (named_in [] l) t n ≡ None
@@ -35,7 +35,7 @@ missed x ds l t (suc n) f le =
 
 -- ---- one that it does begin with
 
-too_long : (k : List ℕ) (ds : List Directive) (u : List ℕ) → list_all (may_precede k) (map target_of ds) ≡ true → length k < length u → listed ds u ≡ None
+too_long : (k : List ℕ) (ds : List Directive) (u : List ℕ) → list_all (precedes k) (map target_of ds) ≡ true → length k < length u → listed ds u ≡ None
 too_long k [] u h l = refl
 too_long k (x ∷ ds) u h l =
     let w = and_parts _ _ h in
@@ -47,7 +47,7 @@ front_is : (x : Directive) (t : List ℕ) (n : ℕ) → begins t x ≡ true → 
 front_is x t n b e = tested (target_of x) (take n t) (begun t x b ∙ ap (λ k. take k t) e)
 
 hit : (x : Directive) (ds : List Directive) (l : Option LevelFilter) (t : List ℕ) (n : ℕ)
-    → begins t x ≡ true → list_all (may_precede (target_of x)) (map target_of ds) ≡ true → length (target_of x) ≤ n → n ≤ length t
+    → begins t x ≡ true → list_all (precedes (target_of x)) (map target_of ds) ≡ true → length (target_of x) ≤ n → n ≤ length t
     → longest (named_in (x ∷ ds) l) t n ≡ Some (level_by x)
 hit x ds l t zero b h low high = ap (λ c. cond c (Some (level_by x)) (listed ds [])) (front_is x t zero b (omega arith))
 hit x ds l t (suc n) b h low high =

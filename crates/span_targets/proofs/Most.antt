@@ -1,7 +1,7 @@
 -- The most that passes at any target is attained at one.
 use Rattle.std.proofs.Common.{◌≡◌, ◌∙◌, ℕ, suc, List, [], ◌∷◌, true, false, ◌⊎◌, inl, inr, Some, None, length, take, refl, sym, subst, ap, arith}
 use Rattle.std.proofs.Math.Seq.{take-length}
-use Rattle.std.proofs.lemmas.Bool.{and_parts, cond-false, cond-true, cond_both, le-leb, leb-true, not-true}
+use Rattle.std.proofs.lemmas.Bool.{and_parts, cond-false, cond-true, cond_both, le-leb, leb-true}
 use Rattle.std.specs.List.{list_all}
 use Rattle.std.specs.Option.{option_or, unwrap_or}
 use Rattle.std.specs.Prelude.{bytes_eq, map, nat_le}
@@ -9,21 +9,22 @@ use Rattle.span_core.specs.Level.{filter_number, greater, level_number}
 use Rattle.span_core.specs.declared.level.LevelFilter.{LevelFilter}
 use Rattle.span_core.specs.declared.level.TheConstants.LevelFilter.{OFF}
 use Rattle.span_targets.proofs.Edits.{Sorted}
+use Rattle.span_targets.proofs.ByLength.{distinct}
 use Rattle.span_targets.proofs.Texts.{apart, differs, same, tested}
 use Rattle.span_targets.specs.Directive.{has_target, level_by, listed, most_of, target_of}
 use Rattle.span_targets.specs.Names.{IsMost, Names, level_for, longest}
 use Rattle.span_targets.specs.Targets.{directives_of, most_by, names_of}
 use Rattle.span_targets.specs.laws.Below.{level_below}
-use Rattle.span_targets.specs.private.Order.{may_precede}
+use Rattle.span_targets.specs.private.Order.{precedes}
 use Rattle.span_targets.specs.declared.directive.Directive.{Directive}
 use Rattle.span_targets.specs.declared.targets.Targets.{Targets}
 
 -- no directive behind one has its target
-pub none_after : (t u : List ℕ) (ds : List Directive) → list_all (may_precede t) (map target_of ds) ≡ true → t ≡ u → listed ds u ≡ None
+pub none_after : (t u : List ℕ) (ds : List Directive) → list_all (precedes t) (map target_of ds) ≡ true → t ≡ u → listed ds u ≡ None
 none_after t u [] h e = refl
 none_after t u (x ∷ ds) h e =
     let w = and_parts _ _ h in
-    let other : bytes_eq t (target_of x) ≡ false = not-true _ (and_parts _ _ w.0).1 in
+    let other : bytes_eq t (target_of x) ≡ false = distinct t (target_of x) w.0 in
     let no : has_target u x ≡ false = differs (target_of x) u (λ s. apart t (target_of x) other (e ∙ sym s)) in
     cond-false (has_target u x) _ _ no ∙ none_after t u ds w.1 e
 
@@ -38,7 +39,7 @@ abbrev IsBy : List Directive → LevelFilter → LevelFilter → Type 0
 IsBy ds a l = (l ≡ a) ⊎ ((t : List ℕ) × (listed ds t ≡ Some l))
 
 other_listed : (x : Directive) (ds : List Directive) (t : List ℕ) (l : LevelFilter)
-    → list_all (may_precede (target_of x)) (map target_of ds) ≡ true → listed ds t ≡ Some l → listed (x ∷ ds) t ≡ Some l
+    → list_all (precedes (target_of x)) (map target_of ds) ≡ true → listed ds t ≡ Some l → listed (x ∷ ds) t ≡ Some l
 other_listed x ds t l h e =
     cond_both (has_target t x) (Some (level_by x)) (listed ds t) (λ o. o ≡ Some l)
     (λ is. let none : listed ds t ≡ None = none_after (target_of x) t ds h (same (target_of x) t is) in absurd (cc))

@@ -4,6 +4,7 @@ ghost use Rattle.span_targets.specs.Directive.{directive_text, word_of};
 
 use span_core::LevelFilter;
 use std::alloc::{AllocError, Global};
+use std::cmp::Ordering;
 use std::fmt;
 
 /// A target, and the levels that pass where a target begins with it.
@@ -14,8 +15,8 @@ pub struct Directive {
 }
 
 impl Directive {
-    ghost use Rattle.span_targets.specs.Directive.{has_target, level_by, target_of};
-    ghost use Rattle.span_targets.specs.private.Order.{begins, precedes};
+    ghost use Rattle.span_targets.specs.Directive.{level_by, target_of};
+    ghost use Rattle.span_targets.specs.private.Order.{begins, order_to};
 
     /// A directive of these parts.
     pub(crate) fn new(
@@ -58,21 +59,14 @@ impl Directive {
         text.as_bytes().starts_with(self.target.as_bytes())
     }
 
-    /// Whether the directive's target is this one.
-    pub(crate) fn has_target(&self, target: &str) -> bool
-        ensures { result ≡ has_target target.now self.now }
+    /// How the directive stands to one with this target: the longest target comes first, of those
+    /// as long the greatest.
+    pub(crate) fn order_to(&self, target: &str) -> Ordering
+        ensures { result ≡ order_to target.now self.now }
     {
-        self.target.as_str() == target
-    }
-
-    /// Whether the directive stands before a new one with this target.
-    pub(crate) fn precedes(&self, target: &str) -> bool
-        ensures { result ≡ precedes target.now self.now }
-    {
-        if self.target.len() == target.len() {
-            self.target.as_str() > target
-        } else {
-            self.target.len() > target.len()
+        match target.len().cmp(&self.target.len()) {
+            Ordering::Equal => target.cmp(self.target.as_str()),
+            unequal => unequal,
         }
     }
 }

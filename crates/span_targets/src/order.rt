@@ -1,33 +1,19 @@
 //! Directives in their order: where one stands, and what passes by them.
-ghost use Rattle.std.specs.Prelude.{◌≡◌, ◌≤◌, length, not, position};
-ghost use Rattle.std.specs.List.{position_or_len};
+ghost use Rattle.std.specs.Prelude.{◌≡◌, length};
+ghost use Rattle.std.specs.List.Sorted.{IsBinarySearchResult, IsSearchInRange};
 ghost use Rattle.span_core.specs.Level.{greater};
-ghost use Rattle.span_targets.specs.Directive.{has_target, most_of};
-ghost use Rattle.span_targets.specs.private.Order.{first_level, precedes};
+ghost use Rattle.span_targets.specs.Directive.{most_of};
+ghost use Rattle.span_targets.specs.private.Order.{first_level, order_to};
 
 use crate::directive::Directive;
 use span_core::LevelFilter;
 
-/// Where the directive with this target stands.
-pub(crate) fn place_of(directives: &[Directive], target: &str) -> Option<usize>
-    ensures { result ≡ position (has_target target.now) directives.now }
+/// Where the directive with this target stands, or where one is to stand.
+pub(crate) fn search(directives: &[Directive], target: &str) -> Result<usize, usize>
+    ensures bound { IsSearchInRange result (length directives.now) }
+    ensures place { IsBinarySearchResult (order_to target.now) directives.now result }
 {
-    directives.iter().position(|d| d.has_target(target))
-}
-
-/// The first place where a directive stands that doesn't precede one with this target.
-fn place_after(directives: &[Directive], target: &str) -> Option<usize>
-    ensures { result ≡ position (λ d. not (precedes target.now d)) directives.now }
-{
-    directives.iter().position(|d| !d.precedes(target))
-}
-
-/// Where a directive with this target is to stand.
-pub(crate) fn place_for(directives: &[Directive], target: &str) -> usize
-    ensures value { result ≡ position_or_len (λ d. not (precedes target.now d)) directives.now }
-    ensures bound { result ≤ length directives.now }
-{
-    place_after(directives, target).unwrap_or(directives.len())
+    directives.binary_search_by(|directive| directive.order_to(target))
 }
 
 /// The levels that pass by the first directive whose target the text begins with.

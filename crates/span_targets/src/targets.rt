@@ -8,7 +8,7 @@ ghost use Rattle.span_targets.specs.Names.{IsMost, level_for, naming, naming_eac
 ghost use Rattle.span_targets.specs.private.Order.{is_longest_first};
 
 use crate::directive::{Directive, level_word};
-use crate::order::{first_level, most_of, place_for, place_of};
+use crate::order::{first_level, most_of, search};
 use crate::read::Said;
 use span_core::{Level, LevelFilter};
 use std::alloc::{AllocError, Global};
@@ -60,10 +60,9 @@ impl Targets {
             (names_of self.new ≡ naming (Some target.now) level (names_of self.old)) }
         ensures err { OnErr result (IsSame self.new self.old) }
     {
-        match place_of(&self.directives, target) {
-            Some(place) => self.directives[place].set_level(level),
-            None => {
-                let place = place_for(&self.directives, target);
+        match search(&self.directives, target) {
+            Ok(place) => self.directives[place].set_level(level),
+            Err(place) => {
                 let directive = Directive::new(*self.directives.allocator(), target, level)?;
                 self.directives.insert(place, directive)?;
             }
