@@ -1,0 +1,3 @@
+pub mod Directive
+pub mod Filter
+pub mod laws
