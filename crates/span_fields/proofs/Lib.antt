@@ -1,2 +1,3 @@
 mod Around
+mod Cuts
 mod Noted

@@ -18,7 +18,8 @@ module _ (id : Id) (m : Metadata) (values : Values) where
   abbrev pub entry : FieldDirective → Entry
   entry d = record { span = id; level = level_by d }
 
-  one_more : (b : Bool) (d : FieldDirective) (ds es : List FieldDirective) → map entry (filter (is_met m values) (ds ++ es)) ≡ met ds id m values ++ met es id m values
+  one_more : (b : Bool) (d : FieldDirective) (ds es : List FieldDirective)
+      → map entry (filter (is_met m values) (ds ++ es)) ≡ met ds id m values ++ met es id m values
       → map entry (cond b (d ∷ filter (is_met m values) (ds ++ es)) (filter (is_met m values) (ds ++ es)))
       ≡ map entry (cond b (d ∷ filter (is_met m values) ds) (filter (is_met m values) ds)) ++ met es id m values
   one_more true d ds es e = ap (λ xs. entry d ∷ xs) e

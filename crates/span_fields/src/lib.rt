@@ -4,9 +4,12 @@
 #![tactic(auto)]
 
 mod directive;
+mod error;
 mod filter;
+mod parse;
 mod value;
 
 pub use directive::FieldDirective;
+pub use error::FieldError;
 pub use filter::FieldFilter;
 pub use value::ValueMatch;
