@@ -6,6 +6,8 @@ mod env;
 #[cfg(test)]
 mod env_filter;
 #[cfg(test)]
+mod field;
+#[cfg(test)]
 mod filter;
 #[cfg(test)]
 mod setting;
