@@ -1,9 +1,9 @@
 -- What a form is asked where each outermost filter refuses, and where all pass.
-use Rattle.std.proofs.Common.{◌≡◌, ℕ, Bool, true, false, not, ◌&&◌, ◌==◌, [], ◌∷◌, Option, Some, None, refl, sym, ap, subst, ◌∙◌}
+use Rattle.std.proofs.Common.{◌≡◌, ℕ, Bool, true, false, not, ◌&&◌, ◌==◌, [], ◌∷◌, Option, Some, None, refl, sym, ap, subst, ◌∙◌, ⊎_elim}
 use Rattle.std.specs.Option.{option_map}
 use Rattle.std.specs.Prelude.{⊤, IsSome, if◌then◌else◌}
 use Rattle.std.specs.List.{AllByRecursion}
-use Rattle.std.proofs.lemmas.Bool.{and_from, and_left, and_parts, false≢true, or_from, or_parts}
+use Rattle.std.proofs.lemmas.Bool.{and_from, and_left, and_parts, cases_Bool, eqb-true, false≢true, or_from, or_parts}
 use Rattle.span_core.specs.Filters.{FilterSet, union}
 use Rattle.span_core.specs.Span.{attributes_of, id_of, metadata_of}
 use Rattle.span_core.specs.declared.metadata.Metadata.{Metadata}
@@ -96,21 +96,21 @@ all_vetoes (Leaf still a) m s l h = ap not h
 all_vetoes (Parts k o i) m s l h = or_from _ _ (all_vetoes o m s l h.0) (all_vetoes i m s l h.1)
 all_vetoes other m s l h = refl
 
-still_none : (n k : ℕ) → answered no_filter (single n) true k ≡ no_filter k
-still_none n k = by_test (k == n)
+-- to let by a filter that doesn't refuse changes nothing
+pub clear : (p : FilterSet) (n : ℕ) → p n ≡ false → answered p (single n) true ≡ p
+clear p n own = λ i k. cleared k i
   where
-    by_test : (c : Bool) → (if c then not true else false) ≡ false
-    by_test true = refl
-    by_test false = refl
-
-none_answered : (n : ℕ) → answered no_filter (single n) true ≡ no_filter
-none_answered n = λ i k. still_none n k i
+    cleared : (k : ℕ) → answered p (single n) true k ≡ p k
+    cleared k = ⊎_elim
+        (λ (same : (k == n) ≡ true). ap (λ c. if c then not true else p k) same ∙ sym (ap p (eqb-true k n same) ∙ own))
+        (λ (other : (k == n) ≡ false). ap (λ c. if c then not true else p k) other)
+        (cases_Bool (k == n))
 
 all_asked : (f : Form) (m : Metadata) (s : Store) (l : ℕ) (b : FilterSet) → AllPass f m s l b → asked f m s l b no_filter ≡ (true, no_filter)
 all_asked (Leaf still a) m s l b h = ap (λ c. (c, no_filter)) h
 all_asked (Filtered (Some n) a f) m s l b h =
     ap (λ c. if c then asked f m s l (union b (single n)) (answered no_filter (single n) true) else (true, answered no_filter (single n) false)) h.0
-    ∙ ap (λ p. asked f m s l (union b (single n)) p) (none_answered n)
+    ∙ ap (λ p. asked f m s l (union b (single n)) p) (clear no_filter n refl)
     ∙ all_asked f m s l (union b (single n)) h.1
 all_asked (Parts k o i) m s l b h =
     ap (λ (r : Bool × FilterSet). if r.0 then asked i m s l b r.1 else r) (all_asked o m s l b h.0) ∙ all_asked i m s l b h.1
@@ -121,10 +121,10 @@ abbrev HasNumbers : Path → Type 0
 HasNumbers path = AllByRecursion (λ one. IsSome one.0) path
 
 -- the rest of the path, which is that of what is under the filter
-data Goes (n : Option ℕ) (a : Behaviour) (o : Option Path) : Path → Type 0 where
+pub data Goes (n : Option ℕ) (a : Behaviour) (o : Option Path) : Path → Type 0 where
   GoesOn : (rest : Path) → o ≡ Some rest → Goes n a o ((n, a) ∷ rest)
 
-path_goes : (n : Option ℕ) (a : Behaviour) (o : Option Path) (path : Path) → option_map (λ p. (n, a) ∷ p) o ≡ Some path → Goes n a o path
+pub path_goes : (n : Option ℕ) (a : Behaviour) (o : Option Path) (path : Path) → option_map (λ p. (n, a) ∷ p) o ≡ Some path → Goes n a o path
 path_goes n a None path e = absurd (cc)
 path_goes n a (Some rest) path e = let same : (n, a) ∷ rest ≡ path = cc in subst (Goes n a (Some rest)) same (GoesOn rest refl)
 
