@@ -59,7 +59,7 @@ data AboveBy (l : Level) (om : Bool) (im : Bool) (oa : Bool) (ia : Bool) (h : Hi
   ByInner : im ≡ false → ia && is_off k ≡ false → Above l k → AboveBy l om im oa ia h k
   ByAbsent : oa ≡ true → Above l k → AboveBy l om im oa ia h k
 
--- where both have hints
+-- where both parts have hints, the level is above both
 over_both : (l : Level) (oa ia : Bool) (h k : LevelFilter)
     → Above l (if oa then Some (greater h k) else (if ia && is_off (Some k) then Some h else Some (greater h k))) → Above l (Some h) × Above l (Some k)
 over_both l true ia h k a = greater_both l h k a
@@ -70,7 +70,7 @@ over_both l false ia h k a = ⊎_elim
     (λ (x : ia && is_off (Some k) ≡ false). greater_both l h k (rw x at a))
     (cases_Bool (ia && is_off (Some k)))
 
--- where the inner one alone has
+-- where the inner part alone has a hint
 inner_only : (l : Level) (om ia : Bool) (k : LevelFilter) → Above l (if ia && is_off (Some k) then None else Some k) → AboveBy l om false false ia None (Some k)
 inner_only l om ia k a = ⊎_elim
     (λ (x : ia && is_off (Some k) ≡ true). absurd (false≢true (rw x at a)))
@@ -101,7 +101,7 @@ full_present other w = refl
 abbrev pub Ruled : Form → Metadata → Store → ℕ → FilterSet → Type 0
 Ruled f m s l b = (vetoes f m s l ≡ true) ⊎ ((is_end f || is_marked f ≡ true) × AreRefused f m s l b)
 
--- and of a full one
+-- what it says of a full part
 abbrev pub FullRuled : Form → Metadata → Store → ℕ → FilterSet → Type 0
 FullRuled f m s l b = (vetoes f m s l ≡ true) ⊎ ((is_marked f ≡ true) × AreRefused f m s l b)
 

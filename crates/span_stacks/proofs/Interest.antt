@@ -85,10 +85,11 @@ registry_only x zero u z e = z refl
 registry_only x (suc n) None z e = tt
 registry_only x (suc n) (Some y) z e = e
 
--- a part says so itself, or the other one does
+-- where the outer part vetoes, both do; else what is known of it leads on
 pub by_outer : {P R : Type 0} (a b : Bool) → (a ≡ true) ⊎ P → (P → (a || b ≡ true) ⊎ R) → (a || b ≡ true) ⊎ R
 by_outer {P} a b said rest = ⊎_elim (λ (x : a ≡ true). inl (or_left _ _ x)) rest said
 
+-- where the inner part vetoes, both do; else what is known of it leads on
 pub by_inner : {P R : Type 0} (a b : Bool) → (b ≡ true) ⊎ P → (P → (a || b ≡ true) ⊎ R) → (a || b ≡ true) ⊎ R
 by_inner {P} a b said rest = ⊎_elim (λ (x : b ≡ true). inl (or_right _ _ x)) rest said
 
@@ -268,7 +269,7 @@ parts_speak InPair o i m n u w c (Quietly q) = (Quietly q.0, Quietly q.1)
 parts_speak InPair o i m n u w c (Marked k) = let marks = and_parts _ _ k in (Marked marks.0, Marked marks.1)
 parts_speak InPair o i m n u w c (Always' y) = let why = rules_always _ _ _ _ _ y in (speaks o m n u why.0, Always' why.1)
 
--- then it isn't never, unless the layer is marked
+-- a layer for which a high sum speaks is of some interest, unless it is marked
 never_speaks : (f : Form) (m : Metadata) (n : ℕ) (u : Sum) (s : Store) (l : ℕ)
     → is_full f ≡ true → HasHonestAnswers f → is_marked f ≡ false → (interest_of f m n u).0 ≡ Never → Speaks f m n u → ⊥
 never_speaks f m n u s l w h k e (Quietly q) = both_ways _ (quiet_veto f m s l q) (never_vetoes f m n u s l w h e)

@@ -30,7 +30,7 @@ Test = Behaviour → FilterSet → Bool
 
 -- ---- plans
 
--- who is notified where a filter, by its number too, passes so
+-- who is notified where filters pass by this test, which knows their numbers
 abbrev pub plan_of : Form → (ℕ → Test) → FilterSet → Plan
 plan_of (Leaf still a) t m = Itself
 plan_of (Filtered (Some n) a f) t m = if t n a (union m (single n)) then Through (plan_of f t (union m (single n))) else Nobody
@@ -85,7 +85,7 @@ local other p q m h = refl
 
 -- ---- questions
 
--- one is asked of each leaf and filter by a test, or not of a filter that refuses already
+-- whether all pass by a test, and which filters then refuse; one that is asked again passes over filters that refuse already
 abbrev pub ask : Bool → Test → Form → FilterSet → FilterSet → Bool × FilterSet
 ask again t (Leaf still a) m p = (t a m, p)
 ask again t (Filtered (Some n) a f) m p = if again && p n then (true, p)
