@@ -1,8 +1,7 @@
 -- Lists of requests are asked for request by request.
 use Rattle.std.proofs.Common.{◌≡◌, List, [], ◌∷◌, ◌++◌, Some, None, refl, sym, subst, append_assoc}
 use Rattle.std.proofs.lemmas.List.{append-nil}
-use Rattle.span_dispatch.specs.Ask.{AsksCall, AsksEach, AsksFor}
-use Rattle.span_dispatch.specs.Contract.{SubscriberOf}
+use Rattle.span_dispatch.specs.Contract.{AsksCall, AsksEach, AsksFor, SubscriberOf}
 use Rattle.span_dispatch.specs.Serve.{call_of}
 use Rattle.span_dispatch.specs.declared.dispatch.Dispatch.{Dispatch}
 use Rattle.span_dispatch.specs.declared.request.Answer.TheVariants as answer

@@ -4,9 +4,8 @@ use Rattle.std.specs.List.{FoldsTo}
 use Rattle.span_targets.specs.declared.setting.Setting.{Setting}
 use Rattle.span_dispatch.specs.Cache.{KeptCallsites}
 use Rattle.span_dispatch.specs.declared.call.Call.{Call}
-use Rattle.span_dispatch.specs.Fixed.{Formed, set_at}
 use Rattle.span_dispatch.specs.Outcome.{IsHonest, LayersGo, Reloaded, OutcomeAt, Makes, Noticed, Outcome, Quiet}
-use Rattle.span_dispatch.specs.Serve.{Run, ServesAsked, call_of}
+use Rattle.span_dispatch.specs.Serve.{Formed, Run, ServesAsked, call_of}
 use Rattle.span_dispatch.specs.declared.request.Answer.{Answer}
 use Rattle.span_dispatch.specs.declared.request.Request.{Request}
 use Rattle.span_store.specs.Store.{RegistryState, Store}
@@ -15,6 +14,7 @@ use Rattle.span_registry.specs.Form.{Form}
 use Rattle.span_registry.specs.Hooks.{StackSteps}
 use Rattle.span_registry.specs.Reload.{ReloadSteps}
 use Rattle.span_registry.specs.Plan.{Plan}
+use Rattle.span_dispatch.specs.private.Fixed.{set_at}
 
 -- how a registry with a form goes on
 abbrev registry_in : Formed → RegistryState

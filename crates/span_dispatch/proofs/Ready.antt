@@ -1,12 +1,13 @@
 -- How a dispatcher stays ready after a call.
 use Rattle.std.proofs.Common.{◌≡◌, ℕ, sym, ap, subst}
 use Rattle.span_dispatch.proofs.Goes.{by_keeping, by_level, ready_again, same_but, stays_same}
-use Rattle.span_dispatch.specs.Contract.{CurrentBy, SameStack, StaysReady, StaysReadyBut, StaysReadyByRules, StaysUpToDate, SubscriberOf}
+use Rattle.span_dispatch.specs.Contract.{CurrentBy, SameStack, StaysReady, StaysReadyWith, StaysUpToDate, SubscriberOf}
 use Rattle.span_dispatch.specs.Serve.{IsReady, stack_of}
 use Rattle.span_dispatch.specs.declared.dispatch.Dispatch.{Dispatch}
 use Rattle.span_registry.specs.KeptForm.{KeepsForm}
 use Rattle.span_registry.specs.laws.Form.{kept_form}
 use Rattle.span_registry.specs.Form.{Form}
+use Rattle.span_registry.specs.Reload.{KeepsRules, ReloadedForm}
 
 module _ {S : Type 0} (s : SubscriberOf S) where
   abbrev IsReadyStack : Form → S → Type 0
@@ -35,16 +36,17 @@ module _ {S : Type 0} {s : SubscriberOf S} where
   unchanged_ready old new e = record { again = λ f k. stays_same s.registry s.with_registry s.has_form s.stepped s.reloaded f old new e k }
 
   -- one of which no level was set
-  pub unset_ready : (n : ℕ) (old new : Dispatch S) → new ≡ old → StaysReadyBut s n old new
+  pub unset_ready : (n : ℕ) (old new : Dispatch S) → new ≡ old → StaysReadyWith s (ReloadedForm n) old new
   unset_ready n old new e = record { again = λ f k. same_but s.registry s.with_registry s.has_form s.stepped s.reloaded f n old new e k }
 
   -- whatever is kept, the rules are
-  pub ready_by_rules : (old new : Dispatch S) → StaysReady s old new → StaysReadyByRules s old new
+  pub ready_by_rules : (old new : Dispatch S) → StaysReady s old new → StaysReadyWith s KeepsRules old new
   ready_by_rules old new h = record { again = λ f k. by_keeping s.registry s.with_registry s.has_form s.stepped s.reloaded f new (h.again f k) }
 
-  pub level_by_rules : (n : ℕ) (old new : Dispatch S) → StaysReadyBut s n old new → StaysReadyByRules s old new
+  pub level_by_rules : (n : ℕ) (old new : Dispatch S) → StaysReadyWith s (ReloadedForm n) old new → StaysReadyWith s KeepsRules old new
   level_by_rules n old new h = record { again = λ f k. by_level s.registry s.with_registry s.has_form s.stepped s.reloaded n f new (h.again f k) }
 
   -- the same from where another is
-  pub unset_from : (n : ℕ) (old between new : Dispatch S) → between ≡ old → StaysReadyBut s n between new → StaysReadyBut s n old new
-  unset_from n old between new e h = subst (λ d. StaysReadyBut s n d new) e h
+  pub unset_from : (n : ℕ) (old between new : Dispatch S)
+      → between ≡ old → StaysReadyWith s (ReloadedForm n) between new → StaysReadyWith s (ReloadedForm n) old new
+  unset_from n old between new e h = subst (λ d. StaysReadyWith s (ReloadedForm n) d new) e h

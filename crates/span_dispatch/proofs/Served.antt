@@ -8,7 +8,7 @@ use Rattle.span_dispatch.proofs.Readable.{told_can_be_read}
 use Rattle.span_dispatch.proofs.Seen.{run_folds}
 use Rattle.span_dispatch.specs.Cache.{KeptCallsites}
 use Rattle.span_dispatch.specs.declared.call.Call.{Call}
-use Rattle.span_dispatch.specs.Contract.{AnswersDrop, ReadyAfter, StaysReadyByRules, SubscriberOf}
+use Rattle.span_dispatch.specs.Contract.{AnswersDrop, ReadyAfter, StaysReadyWith, SubscriberOf}
 use Rattle.span_dispatch.specs.private.Step.{ServesNext, ServesRequest}
 use Rattle.span_dispatch.specs.Outcome.{OutcomeAt}
 use Rattle.span_dispatch.specs.Serve.{IsReadyBy, Run, Served, ServesAsked, call_of, flat, kept_by, stack_of}
@@ -82,7 +82,7 @@ module _ {S : Type 0} (s : SubscriberOf S) where
 
   pub one_more : (first now next : Dispatch S) (done all : List Request) (past answers after : List Answer) (a : Answer) (r : Request)
       → SoFar first now done answers → past ≡ answers → after ≡ answers ++ (a ∷ []) → all ≡ done ++ (r ∷ [])
-      → StaysReadyByRules s now next → ServesNext s past r a now next → SoFar first next all after
+      → StaysReadyWith s KeepsRules now next → ServesNext s past r a now next → SoFar first next all after
   one_more first now next done all past answers after a r h same longer one ready served = λ f k.
       let t = h f k in
       let n = served.served (t.ready.0, t.ready.1) in

@@ -11,7 +11,7 @@ use Rattle.span_core.specs.declared.span.Lane.{Lane}
 use Rattle.span_dispatch.specs.Admission.{decided}
 use Rattle.span_dispatch.specs.Cache.{KeptCallsites}
 use Rattle.span_dispatch.specs.Call.{DropsSpan, FindsOpen, HasRoomFor, OpensFor}
-use Rattle.span_dispatch.specs.Contract.{OpensByPass, OpensSpan, OpensSpanSo, SubscriberOf}
+use Rattle.span_dispatch.specs.Contract.{OpensSpan, OpensSpanWith, SubscriberOf}
 use Rattle.span_dispatch.specs.Serve.{stack_of}
 use Rattle.span_dispatch.specs.private.Step.{ClosesEach}
 use Rattle.span_dispatch.specs.declared.dispatch.Dispatch.{Dispatch}
@@ -202,7 +202,7 @@ module _ {S : Type 0} (registry : S → RegistryState) where
 
 -- a span that was opened with a pass's verdict was opened
 pub opens_span : {S : Type 0} {s : SubscriberOf S} {lane : Lane} {attrs : Attributes} {given : Result (Option Id) TraceError}
-    {old new : Dispatch S} (pass : Pass) → OpensSpanSo s (OpensByPass s lane attrs pass old new) lane attrs given old new → OpensSpan s lane attrs given old new
+    {old new : Dispatch S} (pass : Pass) → OpensSpanWith s pass lane attrs given old new → OpensSpan s lane attrs given old new
 opens_span {s = s} {lane = lane} {attrs = attrs} {given = given} {old = old} {new = new} pass h = record {
   served = h.served;
   kept = h.kept;

@@ -2,20 +2,16 @@
 -- hint and interests first; an uncached one asks its stack of each.
 use Rattle.std.specs.Prelude.{◌≡◌, ◌⊎◌, ◌&&◌, not, ℕ, Bool, true, false, if◌then◌else◌, Option, Some, None}
 use Rattle.std.specs.Option.{option_map, unwrap_or}
-use Rattle.span_core.specs.Filters.{FilterSet}
+use Rattle.span_core.specs.{Filters.FilterSet, Metadata.callsite_of, Metadata.level_of}
 use Rattle.span_core.specs.Level.{is_above}
-use Rattle.span_core.specs.Metadata.{callsite_of, level_of}
-use Rattle.span_core.specs.declared.error.TraceError.{TraceError}
+use Rattle.span_core.specs.declared.{error.TraceError.TraceError, level.LevelFilter.LevelFilter}
 use Rattle.span_core.specs.declared.interest.Interest.TheVariants.{Always, Never, Sometimes}
-use Rattle.span_core.specs.declared.interest.Interest.{Interest}
-use Rattle.span_core.specs.declared.level.LevelFilter.{LevelFilter}
-use Rattle.span_core.specs.declared.metadata.Metadata.{Metadata}
+use Rattle.span_core.specs.declared.{interest.Interest.Interest, metadata.Metadata.Metadata}
 use Rattle.span_core.specs.declared.span.Lane.{Lane}
 use Rattle.span_dispatch.specs.Cache.{Agrees, KeptCallsites, RefusesInterest, with_callsite}
 use Rattle.span_stacks.specs.Wanted.{IsUnwanted}
 use Rattle.span_store.specs.Store.{RegistryState}
-use Rattle.span_registry.specs.Form.{Form}
-use Rattle.span_registry.specs.Hooks.{no_filter}
+use Rattle.span_registry.specs.{Form.Form, Hooks.no_filter}
 use Rattle.span_registry.specs.Question.{asked, hint_of, interest_of, is_never}
 
 -- the hint that a dispatcher goes by: its stack's; none where it is uncached

@@ -7,13 +7,10 @@ use Rattle.span_dispatch.specs.Outcome.{Reloaded, OutcomeAt, Noticed, Outcome, Q
 use Rattle.span_store.specs.Store.{Store}
 use Rattle.span_registry.specs.Behaviour.{AreAlikeHistories, ArePlain, Conduct, History, Notice}
 use Rattle.span_registry.specs.Conducts.{Conducts, after_notice, path_now, reloading}
-use Rattle.span_registry.specs.Form.{End, Filtered, Form, Terminal}
-use Rattle.span_registry.specs.Hooks.{no_filter}
+use Rattle.span_registry.specs.{Form.End, Form.Filtered, Form.Form, Form.Terminal, Hooks.no_filter}
 use Rattle.span_registry.specs.Path.{Path, mask_of, passes_path, path_at}
-use Rattle.span_registry.specs.Position.{Heard, Position, told_in}
-use Rattle.span_registry.specs.Plan.{passes}
-use Rattle.span_registry.specs.Question.{single}
-use Rattle.span_registry.specs.View.{view_of}
+use Rattle.span_registry.specs.{Position.Heard, Position.Position, Position.told_in, View.view_of}
+use Rattle.span_registry.specs.{Plan.passes, Question.single}
 
 -- what a path passes of an outcome between two stores: a notice that all its filters pass, when
 -- asked afresh on the first store

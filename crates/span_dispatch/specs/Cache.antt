@@ -6,16 +6,11 @@ use Rattle.std.specs.Option.{option_map, unwrap_or}
 use Rattle.span_core.specs.Level.{is_above}
 use Rattle.span_core.specs.Metadata.{ShowSame, callsite_of, level_of}
 use Rattle.span_core.specs.declared.error.TraceError.TheVariants.{CallsiteMismatch, OutOfMemory}
-use Rattle.span_core.specs.declared.error.TraceError.{TraceError}
-use Rattle.span_core.specs.declared.interest.Interest.{Interest}
-use Rattle.span_core.specs.declared.level.LevelFilter.{LevelFilter}
-use Rattle.span_core.specs.declared.metadata.Metadata.{Metadata}
+use Rattle.span_core.specs.declared.{error.TraceError.TraceError, level.LevelFilter.LevelFilter}
+use Rattle.span_core.specs.declared.{interest.Interest.Interest, metadata.Metadata.Metadata}
 use Rattle.span_dispatch.specs.declared.cache.Cache.TheVariants as cache
-use Rattle.span_dispatch.specs.declared.cache.Cache.{Cache}
-use Rattle.span_dispatch.specs.declared.cache.Callsite.{Callsite}
-use Rattle.span_dispatch.specs.declared.cache.Known.{Known}
-use Rattle.span_registry.specs.Form.{Form}
-use Rattle.span_registry.specs.Question.{hint_of, interest_of}
+use Rattle.span_dispatch.specs.declared.cache.{Cache.Cache, Callsite.Callsite, Known.Known}
+use Rattle.span_registry.specs.{Form.Form, Question.hint_of, Question.interest_of}
 
 -- callsites whose interest is cached, and the memory held for more
 pub record Callsites : Type 0 where

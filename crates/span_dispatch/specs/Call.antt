@@ -4,29 +4,22 @@ use Rattle.std.specs.Prelude.{◌≡◌, ◌<◌, ◌↔◌, ◌⊎◌, ⊤, ℕ
 use Rattle.std.specs.Option.{option_map}
 use Rattle.span_core.specs.Event.{event_metadata}
 use Rattle.span_core.specs.Span.{asked_parent, current_span, id_of, metadata_of, number_of}
-use Rattle.span_core.specs.declared.error.TraceError.TheVariants.{NotSettable}
-use Rattle.span_core.specs.declared.error.TraceError.{TraceError}
+use Rattle.span_core.specs.declared.error.TraceError.{TheVariants.NotSettable, TraceError}
 use Rattle.span_core.specs.declared.event.Event.{Event}
-use Rattle.span_core.specs.declared.filter.FilterMap.{FilterMap}
-use Rattle.span_core.specs.declared.span.Attributes.{Attributes}
-use Rattle.span_core.specs.declared.span.Current.{Current}
-use Rattle.span_core.specs.declared.span.Id.{Id}
-use Rattle.span_core.specs.declared.span.Lane.{Lane}
-use Rattle.span_core.specs.declared.span.Parent.{Parent}
+use Rattle.span_core.specs.declared.{filter.FilterMap.FilterMap, span.Id.Id, span.Lane.Lane}
+use Rattle.span_core.specs.declared.span.{Attributes.Attributes, Current.Current, Parent.Parent}
 use Rattle.span_dispatch.specs.Admission.{IsDecided, IsUnknown}
 use Rattle.span_dispatch.specs.Cache.{KeptCallsites, no_callsite}
 use Rattle.span_dispatch.specs.Outcome.{HandleAdded, HandleTaken, GoneLeft, Reloaded, Noticed, Outcome, Quiet}
 use Rattle.span_dispatch.specs.declared.call.Call.TheVariants.{AddHandle, AskCurrent, DropHandle, Enter, Exit, Follow, OpenSpan, Probe, RecordValues, SendEvent, Reload}
-use Rattle.span_dispatch.specs.declared.call.Call.{Call}
+use Rattle.span_dispatch.specs.declared.{call.Call.Call, request.Answer.Answer}
 use Rattle.span_dispatch.specs.declared.request.Answer.TheVariants as answer
-use Rattle.span_dispatch.specs.declared.request.Answer.{Answer}
 use Rattle.span_stacks.specs.Verdict.{vetoes, vetoes_event}
 use Rattle.span_store.specs.Closes.{AreUnheld, Member}
 use Rattle.span_store.specs.Step.{Drops, FindsParent, HasPlace, IsCurrent, Opens, RefusesClone, RefusesEnter, RefusesNew, RefusesRelease, RefusesUnlessOpen}
 use Rattle.span_store.specs.Store.{IsHeld, IsOpen, RegistryState, Store, handles_of, take_handle}
 use Rattle.span_registry.specs.Behaviour.{OnClose, OnEnter, OnEvent, OnExit, OnFollows, OnNewSpan, OnRecord}
-use Rattle.span_registry.specs.Form.{Form}
-use Rattle.span_registry.specs.Reload.{takes_setting}
+use Rattle.span_registry.specs.{Form.Form, Reload.takes_setting}
 
 -- whether a leaf with no filter round it refuses an event, by its metadata or the event itself
 abbrev pub vetoes_whole : Form → Event → Store → Lane → Bool

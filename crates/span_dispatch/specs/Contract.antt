@@ -1,49 +1,35 @@
--- What the contract of each call of a dispatcher says. A word takes what the type of a stack says
--- of it as one value, and dispatchers whole.
-use Rattle.std.specs.Prelude.{◌≡◌, ◌⊎◌, ◌&&◌, ℕ, Bool, true, false, List, Option, None, Result, Ok, Err, IfErr, IfOk, IfSome, MatchOption, OnErr, OnOk, is_some}
-use Rattle.std.specs.List.{FoldsTo}
-use Rattle.std.specs.Option.{option_map}
-use Rattle.std.specs.declared.alloc.Global.{Global}
-use Rattle.std.specs.declared.vec.Vec.{Vec}
+-- What the contract of each call of a dispatcher says, and of a list of requests. A word takes what
+-- the type of a stack says of it as one value, and dispatchers whole.
+use Rattle.std.specs.Prelude.{◌≡◌, ◌⊎◌, ◌&&◌, ℕ, Bool, true, false, List, [], ◌∷◌, ◌++◌, Option, Some, None, Result, Ok, Err, IfErr, IfOk, IfSome, MatchOption, OnErr, OnOk, is_some}
+use Rattle.std.specs.{List.FoldsTo, Option.option_map}
+use Rattle.std.specs.declared.{alloc.Global.Global, vec.Vec.Vec}
 use Rattle.span_core.specs.Event.{event_metadata}
 use Rattle.span_core.specs.Span.{asked_parent, metadata_of, number_of}
 use Rattle.span_core.specs.declared.error.TraceError.TheVariants.{CallsiteMismatch, NotSettable}
-use Rattle.span_core.specs.declared.error.TraceError.{TraceError}
-use Rattle.span_core.specs.declared.event.Event.{Event}
-use Rattle.span_core.specs.declared.level.LevelFilter.{LevelFilter}
+use Rattle.span_core.specs.declared.{error.TraceError.TraceError, level.LevelFilter.LevelFilter}
+use Rattle.span_core.specs.declared.{event.Event.Event, pass.Pass.Pass}
 use Rattle.span_targets.specs.declared.setting.Setting.{Setting}
-use Rattle.span_core.specs.declared.metadata.Metadata.{Metadata}
-use Rattle.span_core.specs.declared.pass.Pass.{Pass}
-use Rattle.span_core.specs.declared.span.Attributes.{Attributes}
-use Rattle.span_core.specs.declared.span.Current.{Current}
-use Rattle.span_core.specs.declared.span.Id.{Id}
-use Rattle.span_core.specs.declared.span.Lane.{Lane}
-use Rattle.span_core.specs.declared.span.Parent.{Parent}
-use Rattle.span_core.specs.declared.span.Record.{Record}
+use Rattle.span_core.specs.declared.{metadata.Metadata.Metadata, span.Id.Id, span.Lane.Lane}
+use Rattle.span_core.specs.declared.span.{Attributes.Attributes, Current.Current, Record.Record}
 use Rattle.span_dispatch.specs.Admission.{MayLearn, decided, hint_kept, learned_if}
 use Rattle.span_dispatch.specs.Cache.{KeptCallsites, ReadsOnce, RefusesBelow, RefusesInterest, RefusesRoom, is_above_read, with_room}
 use Rattle.span_dispatch.specs.Call.{DropsSpan, FindsOpen, OpensFor, current_answer, done_answer, event_answer, span_answer, yes_answer}
-use Rattle.span_dispatch.specs.declared.call.Call.{Call}
+use Rattle.span_dispatch.specs.declared.{call.Call.Call, dispatch.Dispatch.Dispatch}
 use Rattle.span_dispatch.specs.declared.call.Call.TheVariants.{AddHandle, AskCurrent, DropHandle, Enter, Exit, Follow, OpenSpan, Probe, RecordValues, SendEvent, Reload}
 use Rattle.span_dispatch.specs.Outcome.{IsHonest, OutcomeAt, Makes}
-use Rattle.span_dispatch.specs.Serve.{IsReady, IsReadyAfter, IsReadyBy, IsReadySomehow, IsServed, KeepsUpToDate, Sees, Served, forgetful, hint_by, kept_by, stack_of, with_stack}
-use Rattle.span_dispatch.specs.declared.dispatch.Dispatch.{Dispatch}
-use Rattle.span_dispatch.specs.declared.request.Answer.TheVariants.{Done}
-use Rattle.span_dispatch.specs.declared.request.Answer.{Answer}
-use Rattle.span_dispatch.specs.declared.request.Request.{Request}
-use Rattle.span_store.specs.Closes.{HasNoClosing}
+use Rattle.span_dispatch.specs.Serve.{IsReady, IsReadyAfter, IsReadyBy, IsReadySomehow, IsServed, KeepsUpToDate, Sees, Served, call_of, forgetful, hint_by, kept_by, stack_of, with_stack}
+use Rattle.span_dispatch.specs.Registration.{KeepsRegistered}
+use Rattle.span_dispatch.specs.declared.request.Answer.TheVariants.{Done, Dropped}
+use Rattle.span_dispatch.specs.declared.request.{Answer.Answer, Request.Request}
+use Rattle.span_store.specs.{Closes.HasNoClosing, Store.IsOpen, Store.RegistryState}
 use Rattle.span_store.specs.Step as step
 use Rattle.span_store.specs.Step.{Clones, Enters, Exits, Opens, RefusesClone, RefusesEnter, RefusesNew, RefusesRelease, RefusesUnlessOpen, Releases, Removal}
-use Rattle.span_store.specs.Store.{IsOpen, RegistryState}
 use Rattle.span_store.specs.declared.registry.Released.TheVariants.{Closing, StillOpen}
-use Rattle.span_registry.specs.Conducts.{ActsAt}
+use Rattle.span_registry.specs.{Conducts.ActsAt, Subscriber.AndHooks, Subscriber.SameButExtensions}
 use Rattle.span_registry.specs.Form.{Form}
-use Rattle.span_registry.specs.Hooks.{StackSteps, Stays, no_filter}
-use Rattle.span_registry.specs.KeptForm.{KeepsForm}
-use Rattle.span_registry.specs.Reload.{FollowsReload, KeepsRules, ReloadSteps, ReloadedForm, takes_setting}
-use Rattle.span_registry.specs.Position.{HearSteps}
-use Rattle.span_registry.specs.Question.{ShowsBy, event_asked}
-use Rattle.span_registry.specs.Subscriber.{AndHooks, SameButExtensions}
+use Rattle.span_registry.specs.{Hooks.StackSteps, Hooks.Stays, Hooks.no_filter, KeptForm.KeepsForm}
+use Rattle.span_registry.specs.Reload.{FollowsReload, ReloadSteps, takes_setting}
+use Rattle.span_registry.specs.{Position.HearSteps, Question.ShowsBy, Question.event_asked}
 
 -- what the type of a stack says of it: where its registry is; the stack on another registry;
 -- whether it may be called; which form it has; how its layers go on when they are notified; what
@@ -61,6 +47,10 @@ SubscriberOf S = record {
   registered : S → S → Type 0;
 }
 
+-- what a call promises: of what it gave or why it was refused, and of a dispatcher before and after
+abbrev pub Promise : Type 0 → Type 0 → Type 1
+Promise S A = Result A TraceError → Dispatch S → Dispatch S → Type 0
+
 -- the level of metadata isn't above a dispatcher's cached hint
 abbrev pub PassesKept : {S : Type 0} → Metadata → Dispatch S → Type 0
 PassesKept m d = is_above_read (hint_by d) m ≡ false
@@ -70,22 +60,6 @@ PassesKept m d = is_above_read (hint_by d) m ≡ false
 abbrev pub RefusesMetadata : {S : Type 0} → Metadata → Dispatch S → TraceError → Type 0
 RefusesMetadata m d error = RefusesBelow (hint_by d) (kept_by d) m error
 
--- metadata whose level isn't above the cached hint are always refused, as a mismatch, where their
--- callsite is cached with other metadata
-abbrev pub RefusesMismatch : {S A : Type 0} → Metadata → Result A TraceError → Dispatch S
-    → Dispatch S → Type 0
-RefusesMismatch m given old new =
-    RefusesMetadata m old CallsiteMismatch → given ≡ Err CallsiteMismatch
-
--- metadata above the cached hint are never refused: the call gives what says dropped
-abbrev pub DropsAbove : {S A : Type 0} → Metadata → A → Result A TraceError → Dispatch S
-    → Dispatch S → Type 0
-DropsAbove m dropped given old new = is_above_read (hint_by new) m ≡ true → given ≡ Ok dropped
-
--- the cached hint is the one that was read first; an uncached dispatcher has none
-abbrev pub KeepsHint : {S : Type 0} → Dispatch S → Dispatch S → Type 0
-KeepsHint old new = ReadsOnce (kept_by old) (hint_by old) (hint_by new)
-
 -- the shown hint is the cached one, where one is cached
 abbrev pub ShowsKept : {S : Type 0} → Dispatch S → Option LevelFilter → Type 0
 ShowsKept d hint = IfSome (hint_by d) (λ kept. hint ≡ kept)
@@ -93,17 +67,6 @@ ShowsKept d hint = IfSome (hint_by d) (λ kept. hint ≡ kept)
 -- why an event is refused: its metadata are
 abbrev pub RefusesEvent : {S : Type 0} → Event → Dispatch S → TraceError → Type 0
 RefusesEvent e d error = RefusesMetadata (event_metadata e) d error
-
--- no callsite is cached anew but that of the metadata, perhaps
-abbrev pub LearnsOnly : {S : Type 0} → Metadata → Dispatch S → Dispatch S → Type 0
-LearnsOnly m old new = MayLearn (kept_by old) m (kept_by new)
-
--- where a call isn't refused, the metadata's callsite is cached afterwards, unless their level is
--- above the cached hint
-abbrev pub KeepsCallsite : {S A : Type 0} → Metadata → Result A TraceError → Dispatch S → Dispatch S
-    → Type 0
-KeepsCallsite m given old new =
-    OnOk given (kept_by new ≡ learned_if (is_above_read (hint_by new) m) (kept_by old) m)
 
 -- the dispatcher's stack is unchanged
 abbrev pub SameStack : {S : Type 0} → Dispatch S → Dispatch S → Type 0
@@ -117,29 +80,24 @@ ChangesStack old new = new ≡ with_stack old (stack_of new)
 abbrev pub ChangesKept : {S : Type 0} → Dispatch S → Dispatch S → Type 0
 ChangesKept old new = new ≡ record old { cache = new.cache }
 
--- nothing of the dispatcher changes but its stack, and all that it cached of callsites is forgotten
-abbrev pub Forgets : {S : Type 0} → Dispatch S → Dispatch S → Type 0
-Forgets old new = new ≡ forgetful (with_stack old (stack_of new))
-
--- why a new span with these metadata and this parent is refused: its level isn't above the cached
--- hint, and either its interest can't be had, or the registry has no room or no such parent
-abbrev pub RefusesOpening : {S : Type 0} → (S → RegistryState) → Lane → Metadata → Parent
-    → Dispatch S → TraceError → Type 0
-RefusesOpening registry lane m p d e =
-    PassesKept m d × (RefusesInterest (kept_by d) m e ⊎ RefusesNew (registry (stack_of d)) lane p e)
-
--- A call that is decided by metadata goes by what is cached: above the hint it is dropped; below
--- it, a callsite cached with other metadata is refused for that; any other refusal has the reason
--- that is given here. The metadata's callsite alone may be cached anew, and is where the call isn't
--- refused.
+-- A call that is decided by metadata goes by what is cached: above the hint it gives what says
+-- dropped; below it, a callsite cached with other metadata is refused for that; any other refusal
+-- has the reason that is given here. The hint is read once. The metadata's callsite alone may be
+-- cached anew, and is unless the call is refused or their level is above the hint.
 pub record GoesByKept {S A : Type 0} (m : Metadata) (dropped : A) (refuses : TraceError → Type 0)
     (given : Result A TraceError) (old new : Dispatch S) : Type 0 where
-  pub hint : KeepsHint old new
-  pub learned : LearnsOnly m old new
-  pub keeps : KeepsCallsite m given old new
-  pub above : DropsAbove m dropped given old new
-  pub mismatch : RefusesMismatch m given old new
+  pub hint : ReadsOnce (kept_by old) (hint_by old) (hint_by new)
+  pub learned : MayLearn (kept_by old) m (kept_by new)
+  pub keeps : OnOk given (kept_by new ≡ learned_if (is_above_read (hint_by new) m) (kept_by old) m)
+  pub above : is_above_read (hint_by new) m ≡ true → given ≡ Ok dropped
+  pub mismatch : RefusesMetadata m old CallsiteMismatch → given ≡ Err CallsiteMismatch
   pub refused : IfErr given refuses
+
+-- a call gave a result of which this is the answer, and kept this promise
+abbrev pub Gives : {S A : Type 0} → (Result A TraceError → Answer) → Promise S A → Answer
+    → Dispatch S → Dispatch S → Type 0
+Gives {S} {A} answer_of promise a old new =
+    (given : Result A TraceError) × (a ≡ answer_of given) × promise given old new
 
 -- the dispatcher has these callsites cached, and has read no hint yet
 pub record KeepsOnly {S : Type 0} (those : KeptCallsites) (d : Dispatch S) : Type 0 where
@@ -164,9 +122,9 @@ module _ {S : Type 0} (s : SubscriberOf S) where
   abbrev pub Shows : Lane → Dispatch S → Current → Type 0
   Shows lane d current = step.ShowsCurrent (registry_of d).store lane current
 
-  -- the stack goes on as one does whose filter with this number is given this setting
-  abbrev pub GivesSetting : ℕ → Setting → Dispatch S → Dispatch S → Type 0
-  GivesSetting n w old new = s.reloaded (stack_of old) n w (stack_of new)
+  -- no span is closing
+  abbrev pub IsSettled : Dispatch S → Type 0
+  IsSettled d = HasNoClosing (registry_of d).store.spans
 
   -- the dispatcher's stack is honest by this form
   abbrev pub HonestBy : Form → Dispatch S → Type 0
@@ -190,7 +148,8 @@ module _ {S : Type 0} (s : SubscriberOf S) where
       (f : Form) → IsReady s.registry s.with_registry s.has_form s.stepped s.reloaded f x
       → ReadyAfter KeepsForm f d
 
-  -- a dispatcher that was ready is ready again, by a form that keeps this much of the old one
+  -- a dispatcher that was ready is ready again, by a form that keeps this much of the old one: all
+  -- but one filter's answers, say, or its rules alone
   pub record StaysReadyWith (keeps : Form → Form → Type 0) (old new : Dispatch S) : Type 0 where
     pub again : (f : Form)
         → IsReadyBy s.registry s.with_registry s.has_form s.stepped s.reloaded f old
@@ -200,16 +159,6 @@ module _ {S : Type 0} (s : SubscriberOf S) where
   -- filter
   abbrev pub StaysReady : Dispatch S → Dispatch S → Type 0
   StaysReady old new = StaysReadyWith KeepsForm old new
-
-  -- a dispatcher that was ready is ready again, by a form in which only the filter with this number
-  -- answers otherwise
-  abbrev pub StaysReadyBut : ℕ → Dispatch S → Dispatch S → Type 0
-  StaysReadyBut n old new = StaysReadyWith (ReloadedForm n) old new
-
-  -- a dispatcher that was ready is ready again, by a form that keeps the old one's rules, whatever
-  -- settings filters took
-  abbrev pub StaysReadyByRules : Dispatch S → Dispatch S → Type 0
-  StaysReadyByRules old new = StaysReadyWith KeepsRules old new
 
   -- an honest stack with a cache up to date serves the call with this answer
   abbrev pub AnswersCall : Call → Answer → Dispatch S → Dispatch S → Type 0
@@ -221,8 +170,7 @@ module _ {S : Type 0} (s : SubscriberOf S) where
   -- an honest stack with a cache up to date serves the drop of a handle with this answer, where no
   -- span was closing
   abbrev pub AnswersDrop : Call → Answer → Dispatch S → Dispatch S → Type 0
-  AnswersDrop call a old new =
-      HasNoClosing (registry_of old).store.spans → AnswersCall call a old new
+  AnswersDrop call a old new = IsSettled old → AnswersCall call a old new
 
   -- the current span is served with what is shown, and nothing changes
   abbrev pub ServesCurrent : Lane → Current → Dispatch S → Type 0
@@ -303,29 +251,18 @@ module _ {S : Type 0} (s : SubscriberOf S) where
       step (registry_of old) (registry_of new)
       × (stack_of new ≡ s.with_registry (stack_of old) (registry_of new))
 
-  -- the new span is opened if one was made; else the stack is unchanged
-  abbrev pub OpensIfMade : Lane → Attributes → Dispatch S → Dispatch S → Option Id → Type 0
-  OpensIfMade lane attrs old new made =
-      MatchOption made (stack_of new ≡ stack_of old)
-      (λ id. TakesStep (OpensFor lane attrs id) old new)
+  -- the registry takes this step if a span was made; else the stack is unchanged
+  abbrev pub OpensIfMade : (Id → RegistryState → RegistryState → Type 0) → Dispatch S → Dispatch S
+      → Option Id → Type 0
+  OpensIfMade opens old new made =
+      MatchOption made (SameStack old new) (λ id. TakesStep (opens id) old new)
 
-  -- the new span is opened if one was made, with the pass's refusing filters for its verdict; else
-  -- the stack is unchanged
-  abbrev pub OpensByPass : Lane → Attributes → Pass → Dispatch S → Dispatch S → Option Id → Type 0
-  OpensByPass lane attrs pass old new made =
-      MatchOption made (stack_of new ≡ stack_of old)
-      (λ id. TakesStep (Opens lane (step.asked attrs pass) id) old new)
-
-  -- why a new span is refused, by its attributes
+  -- why a new span is refused: its level isn't above the cached hint, and either its interest can't
+  -- be had, or the registry has no room or no such parent
   abbrev pub RefusesSpan : Lane → Attributes → Dispatch S → TraceError → Type 0
   RefusesSpan lane attrs d e =
-      RefusesOpening s.registry lane (metadata_of attrs) (asked_parent attrs) d e
-
-  -- a lane leaves a span that isn't open, and no layer is notified
-  abbrev pub LeavesGone : Lane → Id → Dispatch S → Dispatch S → Type 0
-  LeavesGone lane id old new =
-      ¬ (IsOpen (registry_of old).store.spans (number_of id))
-      → TakesStepAlone (Exits lane id) old new
+      PassesKept (metadata_of attrs) d × (RefusesInterest (kept_by d) (metadata_of attrs) e
+      ⊎ RefusesNew (registry_of d) lane (asked_parent attrs) e)
 
   -- A handle is taken. Where the span closes by that, it is taken out, and then each parent that
   -- closes by that, with extensions written in between; else no layer is notified.
@@ -339,17 +276,6 @@ module _ {S : Type 0} (s : SubscriberOf S) where
   -- all that should close when a handle is dropped is closed, and nothing else
   abbrev pub DropsAll : Id → Dispatch S → Dispatch S → Bool → Type 0
   DropsAll id old new closes = TakesStep (DropsSpan id closes) old new
-
-  -- all that should close when a handle is dropped is closed, and nothing else, where no span was
-  -- closing before
-  abbrev pub DropsSettled : Id → Dispatch S → Dispatch S → Bool → Type 0
-  DropsSettled id old new closes =
-      HasNoClosing (registry_of old).store.spans → DropsAll id old new closes
-
-  -- no span is closing afterwards, where none was before
-  abbrev pub StaysWithoutClosing : Dispatch S → Dispatch S → Type 0
-  StaysWithoutClosing old new =
-      HasNoClosing (registry_of old).store.spans → HasNoClosing (registry_of new).store.spans
 
   -- ---- what each call promises, beside `usable`, `ready` and `registered`
 
@@ -367,11 +293,12 @@ module _ {S : Type 0} (s : SubscriberOf S) where
   pub record LearnsCallsite {A : Type 0} (m : Metadata) (given : Result A TraceError)
       (old new : Dispatch S) : Type 0 where
     pub rest : ChangesKept old new
-    pub learned : LearnsOnly m old new
-    pub hint : KeepsHint old new
-    pub keeps : KeepsCallsite m given old new
+    pub learned : MayLearn (kept_by old) m (kept_by new)
+    pub hint : ReadsOnce (kept_by old) (hint_by old) (hint_by new)
+    pub keeps : OnOk given
+        (kept_by new ≡ learned_if (is_above_read (hint_by new) m) (kept_by old) m)
     pub above : IfErr given (λ e. PassesKept m new)
-    pub mismatch : RefusesMismatch m given old new
+    pub mismatch : RefusesMetadata m old CallsiteMismatch → given ≡ Err CallsiteMismatch
     pub refused : IfErr given (RefusesMetadata m old)
     pub unchanged : OnErr given (kept_by new ≡ kept_by old)
     pub up_to_date : StaysUpToDate old new
@@ -382,7 +309,7 @@ module _ {S : Type 0} (s : SubscriberOf S) where
       (old new : Dispatch S) : Type 0 where
     pub rest : ChangesKept old new
     pub held : OnOk given (kept_by new ≡ option_map (with_room n) (kept_by old))
-    pub hint : KeepsHint old new
+    pub hint : ReadsOnce (kept_by old) (hint_by old) (hint_by new)
     pub refused : IfErr given (RefusesRoom n (kept_by old))
     pub unchanged : OnErr given (kept_by new ≡ kept_by old)
     pub up_to_date : StaysUpToDate old new
@@ -398,27 +325,24 @@ module _ {S : Type 0} (s : SubscriberOf S) where
     pub dropped : given ≡ Ok false → SameStack old new
     pub unchanged : OnErr given (SameStack old new)
 
-  -- a call that opens a span in this way, if one is made
-  pub record OpensSpanSo (opens : Option Id → Type 0) (lane : Lane) (attrs : Attributes)
-      (given : Result (Option Id) TraceError) (old new : Dispatch S) : Type 0 where
+  -- a call that opens a span by this step, if one is made
+  pub record OpensSpanBy (opens : Id → RegistryState → RegistryState → Type 0) (lane : Lane)
+      (attrs : Attributes) (given : Result (Option Id) TraceError)
+      (old new : Dispatch S) : Type 0 where
     pub served : AnswersCall (OpenSpan lane attrs) (span_answer given) old new
     pub kept : GoesByKept (metadata_of attrs) None (RefusesSpan lane attrs old) given old new
     pub up_to_date : StaysUpToDate old new
     pub asked : WantsSpan lane attrs old given
-    pub store : IfOk given opens
+    pub store : IfOk given (OpensIfMade opens old new)
     pub unchanged : OnErr given (SameStack old new)
 
   -- `new_span`: a dropped or refused span leaves the stack unchanged
-  abbrev pub OpensSpan : Lane → Attributes → Result (Option Id) TraceError → Dispatch S → Dispatch S
-      → Type 0
-  OpensSpan lane attrs given old new =
-      OpensSpanSo (OpensIfMade lane attrs old new) lane attrs given old new
+  abbrev pub OpensSpan : Lane → Attributes → Promise S (Option Id)
+  OpensSpan lane attrs = OpensSpanBy (OpensFor lane attrs) lane attrs
 
   -- `new_span` with a pass, whose refusing filters are the span's verdict
-  abbrev pub OpensSpanWith : Pass → Lane → Attributes → Result (Option Id) TraceError → Dispatch S
-      → Dispatch S → Type 0
-  OpensSpanWith pass lane attrs given old new =
-      OpensSpanSo (OpensByPass lane attrs pass old new) lane attrs given old new
+  abbrev pub OpensSpanWith : Pass → Lane → Attributes → Promise S (Option Id)
+  OpensSpanWith pass lane attrs = OpensSpanBy (Opens lane (step.asked attrs pass)) lane attrs
 
   -- a call that asks something of a span: nothing changes but the stack, which takes this step;
   -- where the call is refused, nothing changes
@@ -432,40 +356,37 @@ module _ {S : Type 0} (s : SubscriberOf S) where
     pub unchanged : OnErr given (new ≡ old)
 
   -- `enter`: the lane enters the span, unless the call is refused
-  abbrev pub EntersSpan : Lane → Id → Result (Unit {0}) TraceError → Dispatch S → Dispatch S
-      → Type 0
-  EntersSpan lane id given old new =
+  abbrev pub EntersSpan : Lane → Id → Promise S (Unit {0})
+  EntersSpan lane id =
       AsksOfSpan (Enter lane id) (TakesStep (Enters lane id))
-      (Refuses (λ r. RefusesEnter r lane) id) given old new
+      (Refuses (λ r. RefusesEnter r lane) id)
 
   -- `record`: the span is open, and layers may be notified of the values, unless the call is
   -- refused
-  abbrev pub RecordsValues : Lane → Id → Record → Result (Unit {0}) TraceError → Dispatch S
-      → Dispatch S → Type 0
-  RecordsValues lane id values given old new =
+  abbrev pub RecordsValues : Lane → Id → Record → Promise S (Unit {0})
+  RecordsValues lane id values =
       AsksOfSpan (RecordValues lane id values) (TakesStep (FindsOpen id))
-      (Refuses RefusesUnlessOpen id) given old new
+      (Refuses RefusesUnlessOpen id)
 
   -- `follows_from`: the first span is open, and layers may be notified that it follows from the
   -- second, unless the call is refused
-  abbrev pub FollowsSpan : Lane → Id → Id → Result (Unit {0}) TraceError → Dispatch S → Dispatch S
-      → Type 0
-  FollowsSpan lane id other given old new =
+  abbrev pub FollowsSpan : Lane → Id → Id → Promise S (Unit {0})
+  FollowsSpan lane id other =
       AsksOfSpan (Follow lane id other) (TakesStep (FindsOpen id)) (Refuses RefusesUnlessOpen id)
-      given old new
 
   -- `clone_span`: the span has a handle more, and no layer is notified, unless the call is refused
-  abbrev pub ClonesSpan : Lane → Id → Result Id TraceError → Dispatch S → Dispatch S → Type 0
-  ClonesSpan lane id given old new =
-      AsksOfSpan (AddHandle lane id) (TakesStepAlone (Clones id)) (Refuses RefusesClone id) given
-      old new
+  abbrev pub ClonesSpan : Lane → Id → Promise S Id
+  ClonesSpan lane id =
+      AsksOfSpan (AddHandle lane id) (TakesStepAlone (Clones id)) (Refuses RefusesClone id)
 
-  -- `exit`: the lane leaves the span, and the call is never refused
+  -- `exit`: the lane leaves the span, and where that isn't open, no layer is notified; the call is
+  -- never refused
   pub record ExitsSpan (lane : Lane) (id : Id) (old new : Dispatch S) : Type 0 where
     pub rest : ChangesStack old new
     pub served : AnswersCall (Exit lane id) Done old new
     pub store : TakesStep (Exits lane id) old new
-    pub gone : LeavesGone lane id old new
+    pub gone : ¬ (IsOpen (registry_of old).store.spans (number_of id))
+        → TakesStepAlone (Exits lane id) old new
 
   -- `drop_span`: a handle is taken. What is said of all that closes supposes that no span was
   -- closing.
@@ -474,8 +395,8 @@ module _ {S : Type 0} (s : SubscriberOf S) where
     pub rest : ChangesStack old new
     pub served : AnswersDrop (DropHandle lane id) (yes_answer given) old new
     pub taken : IfOk given (TakesHandle id old new)
-    pub store : IfOk given (DropsSettled id old new)
-    pub settled : StaysWithoutClosing old new
+    pub store : IfOk given (λ closes. IsSettled old → DropsAll id old new closes)
+    pub settled : IsSettled old → IsSettled new
     pub refused : IfErr given (Refuses RefusesRelease id old)
     pub unchanged : OnErr given (new ≡ old)
 
@@ -484,10 +405,49 @@ module _ {S : Type 0} (s : SubscriberOf S) where
       (old new : Dispatch S) : Type 0 where
     pub registry : SameRegistry old new
     pub served : AnswersCall (Reload n w) (done_answer given) old new
-    pub reloaded : OnOk given (GivesSetting n w old new)
+    pub reloaded : OnOk given (s.reloaded (stack_of old) n w (stack_of new))
     pub taken : OnOk given (TakesSetting n w old true)
     pub none : OnErr given (TakesSetting n w old false)
     pub rest : ChangesSetting n old new
-    pub forgets : OnOk given (Forgets old new)
+    pub forgets : OnOk given (new ≡ forgetful (with_stack old (stack_of new)))
     pub refused : IfErr given (λ e. e ≡ NotSettable n)
     pub unchanged : OnErr given (new ≡ old)
+
+  -- ---- what is promised of a call that is given as a value, and of a list of requests
+
+  -- the call of a value's kind gave a result of which this is the answer, and kept that call's
+  -- promise
+  abbrev pub AsksCall : Call → Answer → Dispatch S → Dispatch S → Type 0
+  AsksCall (OpenSpan lane attrs) = Gives span_answer (OpensSpan lane attrs)
+  AsksCall (SendEvent lane e) = Gives event_answer (SendsEvent lane e)
+  AsksCall (Enter lane id) = Gives done_answer (EntersSpan lane id)
+  AsksCall (Exit lane id) = λ a old new. (a ≡ Done) × ExitsSpan lane id old new
+  AsksCall (RecordValues lane id values) = Gives done_answer (RecordsValues lane id values)
+  AsksCall (Follow lane id other) = Gives done_answer (FollowsSpan lane id other)
+  AsksCall (AddHandle lane id) = Gives done_answer (ClonesSpan lane id)
+  AsksCall (DropHandle lane id) = Gives yes_answer (DropsOneHandle lane id)
+  AsksCall (Probe lane m) = Gives yes_answer (Probes lane m)
+  AsksCall (AskCurrent lane) = λ a old new.
+      (shown : Current) × (a ≡ current_answer shown) × Shows lane old shown × (new ≡ old)
+  AsksCall (Reload n w) = Gives {A = Unit {0}} done_answer (ReloadsFilter n w)
+
+  -- the call that is asked for, if any, keeps its promise; where none is, the answer is Dropped and
+  -- nothing changes
+  abbrev pub AsksFor : Option Call → Answer → Dispatch S → Dispatch S → Type 0
+  AsksFor None a old new = (a ≡ Dropped) × (new ≡ old)
+  AsksFor (Some call) a old new = AsksCall call a old new
+
+  -- each request of a list, behind the answers so far, keeps the promise of the call that it asks
+  -- for, one after another
+  abbrev pub AsksEach : List Answer → List Request → List Answer → Dispatch S → Dispatch S → Type 0
+  AsksEach past [] [] old new = new ≡ old
+  AsksEach past (r ∷ rs) (a ∷ answers) old new =
+      (next : Dispatch S) × AsksFor (call_of past r) a old next
+      × AsksEach (past ++ (a ∷ [])) rs answers next new
+  AsksEach past rs answers old new = ⊥
+
+  -- a list of requests keeps the promise of each, and each registration that was valid stays so
+  pub record AsksList (requests : List Request) (old new : Dispatch S)
+      (answers : Vec Answer Global) : Type 0 where
+    pub each : AsksEach [] requests answers.items old new
+    pub registered : KeepsRegistered old new

@@ -1,10 +1,8 @@
 pub mod Admission
 pub mod Alone
-pub mod Ask
 pub mod Cache
 pub mod Call
 pub mod Contract
-pub mod Fixed
 pub mod Outcome
 pub mod Readable
 pub mod Recorder

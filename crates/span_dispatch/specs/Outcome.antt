@@ -1,26 +1,18 @@
 -- What comes of a request: notices, quiet changes of the store, and settings that filters take; and
 -- what each does to a store, and to a stack.
 use Rattle.std.specs.Prelude.{◌≡◌, ◌≤◌, ◌+◌, ℕ, true, false, Option}
-use Rattle.std.specs.FinMap.{insert, remove}
-use Rattle.std.specs.FinSet.{contains, insert as add}
-use Rattle.span_core.specs.Filters.{refuses}
-use Rattle.span_core.specs.Span.{asked_parent, metadata_of, number_of}
-use Rattle.span_core.specs.declared.filter.FilterMap.{FilterMap}
+use Rattle.std.specs.{FinMap.insert, FinMap.remove, FinSet.contains, FinSet.insert as add}
+use Rattle.span_core.specs.{Filters.refuses, Span.asked_parent, Span.metadata_of, Span.number_of}
+use Rattle.span_core.specs.declared.{filter.FilterMap.FilterMap, metadata.Metadata.Metadata}
 use Rattle.span_targets.specs.declared.setting.Setting.{Setting}
-use Rattle.span_core.specs.declared.metadata.Metadata.{Metadata}
-use Rattle.span_core.specs.declared.span.Attributes.{Attributes}
-use Rattle.span_core.specs.declared.span.Id.{Id}
-use Rattle.span_core.specs.declared.span.Lane.{Lane}
-use Rattle.span_stacks.specs.Honest.{IsHonestStack}
-use Rattle.span_stacks.specs.Verdict.{in_verdict}
+use Rattle.span_core.specs.declared.span.{Attributes.Attributes, Lane.Lane, Id.Id}
+use Rattle.span_stacks.specs.{Honest.IsHonestStack, Verdict.in_verdict}
 use Rattle.span_extensions.specs.Extensions.{no_values}
 use Rattle.span_store.specs.Step.{IsParentFor, RetiresLate, entered, exited}
 use Rattle.span_store.specs.Store.{IsClosing, IsHeld, IsOpen, RegistryState, Span, Store, add_handle, take_handle}
 use Rattle.span_registry.specs.Behaviour.{Notice, OnClose, OnEnter, OnExit, OnFollows, OnIdChange, OnNewSpan, OnRecord}
-use Rattle.span_registry.specs.Form.{Form}
-use Rattle.span_registry.specs.Hooks.{StackSteps, no_filter}
-use Rattle.span_registry.specs.Reload.{ReloadSteps, takes_setting}
-use Rattle.span_registry.specs.Plan.{asked_afresh}
+use Rattle.span_registry.specs.{Form.Form, Hooks.StackSteps, Hooks.no_filter}
+use Rattle.span_registry.specs.{Reload.ReloadSteps, Reload.takes_setting, Plan.asked_afresh}
 
 -- a change of the store that no layer is notified of: a span has a handle more, or a handle less,
 -- or a lane leaves a span that isn't open

@@ -4,19 +4,14 @@ use Rattle.std.specs.Prelude.{◌≡◌, ℕ, ◌<◌, true, Some, IfSome}
 use Rattle.std.specs.FinMap.{get}
 use Rattle.span_core.specs.Span.{metadata_of, number_of}
 use Rattle.span_core.specs.declared.filter.TheConstants.FilterId.{LIMIT}
-use Rattle.span_core.specs.declared.span.Attributes.{Attributes}
-use Rattle.span_core.specs.declared.span.Id.{Id}
-use Rattle.span_core.specs.declared.span.Lane.{Lane}
+use Rattle.span_core.specs.declared.span.{Attributes.Attributes, Lane.Lane, Id.Id}
 use Rattle.span_dispatch.specs.Outcome.{IsVerdict}
 use Rattle.span_stacks.specs.Verdict.{AreDistinct, numbers_of}
 use Rattle.span_store.specs.Store.{Span, Store}
 use Rattle.span_registry.specs.Behaviour.{OnClose, OnNewSpan, span_in}
 use Rattle.span_registry.specs.Form.{Form}
-use Rattle.span_registry.specs.Hooks.{no_filter}
-use Rattle.span_registry.specs.Reload.{KeepsRules}
-use Rattle.span_registry.specs.Path.{Path, passes_path, path_at}
-use Rattle.span_registry.specs.Position.{Position, Told}
-use Rattle.span_registry.specs.View.{is_shown}
+use Rattle.span_registry.specs.{Hooks.no_filter, Position.Position, Position.Told, View.is_shown}
+use Rattle.span_registry.specs.{Reload.KeepsRules, Path.Path, Path.passes_path, Path.path_at}
 
 -- the leaf's own context, when it is notified, shows the span that the notice is of
 abbrev pub ShowsItsSpan : Told → Type 0

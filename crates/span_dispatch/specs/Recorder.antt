@@ -1,14 +1,12 @@
 -- What a recorder keeps of what it is notified of.
 use Rattle.std.specs.Prelude.{◌≡◌, ℕ, ◌+◌, ◌≤◌, Bool, true, false, List, [], ◌∷◌, ◌++◌, length}
-use Rattle.span_core.specs.Event.{event_metadata}
-use Rattle.span_core.specs.Metadata.{callsite_of}
+use Rattle.span_core.specs.{Event.event_metadata, Metadata.callsite_of}
 use Rattle.span_core.specs.declared.span.Lane.{Lane}
 use Rattle.span_dispatch.specs.declared.recorded.Recorded.TheVariants as kept
 use Rattle.span_dispatch.specs.declared.recorded.Recorded.{Recorded}
 use Rattle.span_layers.specs.Layer.{LayerSteps}
 use Rattle.span_registry.specs.Behaviour.{Notice, OnClose, OnEnter, OnEvent, OnExit, OnFollows, OnIdChange, OnNewSpan, OnRecord}
-use Rattle.span_registry.specs.Position.{Told}
-use Rattle.span_registry.specs.Plan.{Itself}
+use Rattle.span_registry.specs.{Position.Told, Plan.Itself}
 
 -- a recorder: its notices, the memory that it holds for more, and whether it has failed for want of
 -- memory

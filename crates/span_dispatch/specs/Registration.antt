@@ -1,13 +1,10 @@
 -- Callsites that a dispatcher caches, and registrations by which it is asked without a search.
 use Rattle.std.specs.Prelude.{◌≡◌, ◌≤◌, ◌<◌, ◌+◌, ◌-◌, ◌^◌, ℕ, min, IfSome}
-use Rattle.span_core.specs.declared.interest.Interest.{Interest}
-use Rattle.span_core.specs.declared.interest.Interest.TheVariants.{Always}
+use Rattle.span_core.specs.declared.interest.Interest.{Interest, TheVariants.Always}
 use Rattle.span_core.specs.declared.metadata.Metadata.{Metadata}
 use Rattle.span_dispatch.specs.Cache.{KnowsInterest}
-use Rattle.span_dispatch.specs.declared.dispatch.Dispatch.{Dispatch}
-use Rattle.span_dispatch.specs.declared.registration.Epoch.{Epoch}
-use Rattle.span_dispatch.specs.declared.registration.Kept.{Kept}
-use Rattle.span_dispatch.specs.declared.registration.Registration.{Registration}
+use Rattle.span_dispatch.specs.declared.{dispatch.Dispatch.Dispatch, registration.Kept.Kept}
+use Rattle.span_dispatch.specs.declared.registration.{Epoch.Epoch, Registration.Registration}
 
 -- the last epoch of a dispatcher's cache
 abbrev pub last_epoch : ℕ

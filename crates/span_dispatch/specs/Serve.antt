@@ -3,37 +3,26 @@ use Rattle.std.specs.Prelude.{◌≡◌, ℕ, List, [], ◌∷◌, ◌++◌, map
 use Rattle.std.specs.List.{AllByRecursion, FoldsTo, flat_map}
 use Rattle.std.specs.Option.{option_and_then, option_map, option_map_or}
 use Rattle.std.specs.declared.alloc.Global.{Global}
-use Rattle.span_core.specs.Event.{event_of}
-use Rattle.span_core.specs.Span.{attributes_of, number_of, record_of}
-use Rattle.span_core.specs.declared.span.Id.{Id}
+use Rattle.span_core.specs.{Event.event_of, Span.attributes_of, Span.number_of, Span.record_of}
+use Rattle.span_core.specs.declared.span.{Id.Id, Parent.Parent}
 use Rattle.span_core.specs.declared.span.Parent.TheVariants as parent
-use Rattle.span_core.specs.declared.span.Parent.{Parent}
-use Rattle.span_dispatch.specs.Alone.{Alone, passed_at}
+use Rattle.span_dispatch.specs.{Alone.Alone, Alone.passed_at, Call.OutcomesOf, Call.AnswersWith}
 use Rattle.span_dispatch.specs.Cache.{IsUpToDate, KeptCallsites, ReadHint, forgotten, hint_in, kept_in}
-use Rattle.span_dispatch.specs.Registration.{next_epoch}
-use Rattle.span_dispatch.specs.Call.{OutcomesOf, AnswersWith}
-use Rattle.span_dispatch.specs.declared.call.Call.{Call}
+use Rattle.span_dispatch.specs.{Registration.next_epoch, Readable.ShowsItsSpan}
+use Rattle.span_dispatch.specs.declared.{call.Call.Call, request.Answer.Answer, request.Which.Which}
 use Rattle.span_dispatch.specs.declared.call.Call.TheVariants.{AddHandle, AskCurrent, DropHandle, Enter, Exit, Follow, OpenSpan, Probe, RecordValues, SendEvent, Reload}
 use Rattle.span_dispatch.specs.Outcome.{IsHonest, OutcomeAt, Makes, Noticed, Outcome}
-use Rattle.span_dispatch.specs.Readable.{ShowsItsSpan}
-use Rattle.span_dispatch.specs.declared.dispatch.Dispatch.{Dispatch}
+use Rattle.span_dispatch.specs.declared.{dispatch.Dispatch.Dispatch, recorded.Recorded.Recorded}
 use Rattle.span_dispatch.specs.declared.request.Answer.TheVariants as answer
-use Rattle.span_dispatch.specs.declared.request.Answer.{Answer}
 use Rattle.span_dispatch.specs.declared.request.Request.TheVariants as request
-use Rattle.span_dispatch.specs.declared.request.Request.{Request}
+use Rattle.span_dispatch.specs.declared.request.{Request.Request, WhichParent.WhichParent}
 use Rattle.span_dispatch.specs.declared.request.Which.TheVariants as which
-use Rattle.span_dispatch.specs.declared.request.Which.{Which}
 use Rattle.span_dispatch.specs.declared.request.WhichParent.TheVariants as asked
-use Rattle.span_dispatch.specs.declared.request.WhichParent.{WhichParent}
-use Rattle.span_store.specs.Closes.{HasNoClosing, Member}
-use Rattle.span_store.specs.Store.{RegistryState, Store}
-use Rattle.span_registry.specs.Behaviour.{OnClose}
-use Rattle.span_registry.specs.Form.{Form}
-use Rattle.span_registry.specs.Agree.{AgreeAt}
-use Rattle.span_registry.specs.Conducts.{ActsAt, Conducts, numbers_in}
-use Rattle.span_registry.specs.Hooks.{StackSteps}
-use Rattle.span_registry.specs.Reload.{ReloadSteps}
-use Rattle.span_registry.specs.Position.{HearSteps, Position}
+use Rattle.span_store.specs.{Closes.HasNoClosing, Closes.Member, Store.RegistryState, Store.Store}
+use Rattle.span_registry.specs.{Behaviour.OnClose, Hooks.StackSteps, Agree.AgreeAt}
+use Rattle.span_registry.specs.{Form.Form, Conducts.ActsAt, Conducts.Conducts, Conducts.numbers_in}
+use Rattle.span_registry.specs.{Reload.ReloadSteps, Position.HearSteps, Position.Position}
+use Rattle.span_dispatch.specs.Recorder.{kept_notice}
 
 -- the stack of a dispatcher
 abbrev pub stack_of : {S : Type 0} → Dispatch S → S
@@ -118,6 +107,14 @@ StandOnce (x ∷ xs) = ¬ (Member x xs) × StandOnce xs
 -- all that was made, request by request, in one list
 abbrev pub flat : List (List OutcomeAt) → List OutcomeAt
 flat made = flat_map (λ ms. ms) made
+
+-- what a recorder at a position has of what was made, if all of it fitted into its memory
+abbrev pub kept_at : List (List OutcomeAt) → Position → List Recorded
+kept_at made position = map kept_notice (passed_at position (flat made))
+
+-- a registry, and the form of the layers on it
+abbrev pub Formed : Type 0
+Formed = RegistryState × Form
 
 -- each leaf was notified of what its path passes of what was made; and where only plain filters
 -- stand round it, of what it would be notified of if it stood alone, on any store that differs in

@@ -1,3 +1,4 @@
+pub mod Fixed
 pub mod Interest
 pub mod Registration
 pub mod Step

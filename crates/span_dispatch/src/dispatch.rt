@@ -6,7 +6,7 @@ ghost use Rattle.span_core.specs.Filters.{IsEmpty};
 ghost use Rattle.span_core.specs.Metadata.{ShowSame};
 ghost use Rattle.span_core.specs.Span.{metadata_of, number_of};
 ghost use Rattle.span_dispatch.specs.Cache.{no_callsite};
-ghost use Rattle.span_dispatch.specs.Contract.{BecomesReady, ChangesKept, ClonesSpan, DropsOneHandle, EntersSpan, ExitsSpan, FollowsSpan, GoesByKept, KeepsOnly, LearnsCallsite, OpensSpan, OpensSpanWith, Probes, RecordsValues, RefusesMetadata, ReservesCallsites, SameStack, SendsEvent, ServesCurrent, ReloadsFilter, Shows, ShowsHint, ShowsKept, StaysReady, StaysReadyBut, StaysUpToDate};
+ghost use Rattle.span_dispatch.specs.Contract.{BecomesReady, ChangesKept, ClonesSpan, DropsOneHandle, EntersSpan, ExitsSpan, FollowsSpan, GoesByKept, KeepsOnly, LearnsCallsite, OpensSpan, OpensSpanWith, Probes, RecordsValues, RefusesMetadata, ReservesCallsites, SameStack, SendsEvent, ServesCurrent, ReloadsFilter, Shows, ShowsHint, ShowsKept, StaysReady, StaysUpToDate, StaysReadyWith};
 ghost use Rattle.span_dispatch.specs.private.Registration.{IsRegisteredAs};
 ghost use Rattle.span_dispatch.specs.private.Step.{Admits, ClosesEach, Decides};
 ghost use Rattle.span_dispatch.specs.contracts.dispatch.Dispatch.{the_row};
@@ -15,6 +15,7 @@ ghost use Rattle.span_dispatch.specs.Serve.{KeepsUpToDate, alloc_of, forgetful, 
 ghost use Rattle.span_store.specs.Store.{IsClosing};
 ghost use Rattle.span_registry.specs.Form.{Form};
 ghost use Rattle.span_registry.specs.Question.{refusals};
+ghost use Rattle.span_registry.specs.Reload.{ReloadedForm};
 
 use crate::cache::Cache;
 use crate::registration::{Epoch, Registration};
@@ -570,7 +571,7 @@ impl<S: Subscriber> Dispatch<S> {
         requires { S.usable (stack_of self.old) }
         ensures usable { S.usable (stack_of self.new) }
         ensures registered { KeepsRegistered self.old self.new }
-        ensures ready { StaysReadyBut S.Subscriber number self.old self.new }
+        ensures ready { StaysReadyWith S.Subscriber (ReloadedForm number) self.old self.new }
         ensures sets { ReloadsFilter S.Subscriber number setting result self.old self.new }
     {
         if !self.stack.reload(number, setting) {

@@ -1,10 +1,10 @@
 //! Lists of requests, served in order.
 ghost use Rattle.std.specs.Prelude.{◌≡◌, ◌∷◌, [], ◌++◌, IfOk, IfErr, ◌<◌, ◌≤◌, ◌+◌, length, vec_len, vec_capacity};
-ghost use Rattle.span_dispatch.specs.Ask.{AsksCall, AsksFor, AsksList};
-ghost use Rattle.span_dispatch.specs.Contract.{AnswersDrop, ServesList, StaysReadyByRules};
+ghost use Rattle.span_dispatch.specs.Contract.{AnswersDrop, AsksCall, AsksFor, AsksList, ServesList, StaysReadyWith};
 ghost use Rattle.span_dispatch.specs.private.Step.{ServesNext};
 ghost use Rattle.span_dispatch.specs.Registration.{KeepsRegistered};
 ghost use Rattle.span_dispatch.specs.Serve.{call_of, stack_of};
+ghost use Rattle.span_registry.specs.Reload.{KeepsRules};
 
 use crate::call::Call;
 use crate::dispatch::Dispatch;
@@ -25,7 +25,7 @@ impl<S: Subscriber> Dispatch<S> {
     ) -> Result<Vec<Answer>, TraceError>
         requires { S.usable (stack_of self.old) }
         ensures usable { S.usable (stack_of self.new) }
-        ensures ready { StaysReadyByRules S.Subscriber self.old self.new }
+        ensures ready { StaysReadyWith S.Subscriber KeepsRules self.old self.new }
         ensures served { IfOk result (ServesList S.Subscriber requests.now self.old self.new) }
         ensures asks { IfOk result (AsksList S.Subscriber requests.now self.old self.new) }
         ensures length { IfOk result (λ a. length a.items ≡ length requests.now) }
@@ -44,7 +44,7 @@ impl<S: Subscriber> Dispatch<S> {
         requires usable { S.usable (stack_of self.old) }
         requires room { length requests.now ≤ vec_capacity answers.old }
         ensures usable { S.usable (stack_of self.new) }
-        ensures ready { StaysReadyByRules S.Subscriber self.old self.new }
+        ensures ready { StaysReadyWith S.Subscriber KeepsRules self.old self.new }
         ensures served { ServesList S.Subscriber requests.now self.old self.new answers.new }
         ensures asks { AsksList S.Subscriber requests.now self.old self.new answers.new }
         ensures length { length answers.new.items ≡ length requests.now }
@@ -63,7 +63,7 @@ impl<S: Subscriber> Dispatch<S> {
         requires { S.usable (stack_of self.old) }
         ensures usable { S.usable (stack_of self.new) }
         ensures registered { KeepsRegistered self.old self.new }
-        ensures ready { StaysReadyByRules S.Subscriber self.old self.new }
+        ensures ready { StaysReadyWith S.Subscriber KeepsRules self.old self.new }
         ensures served { ServesNext S.Subscriber past.now request.now result self.old self.new }
         ensures asks { AsksFor S.Subscriber (call_of past.now request.now) result self.old
             self.new }
@@ -82,7 +82,7 @@ impl<S: Subscriber> Dispatch<S> {
         requires { S.usable (stack_of self.old) }
         ensures usable { S.usable (stack_of self.new) }
         ensures registered { KeepsRegistered self.old self.new }
-        ensures ready { StaysReadyByRules S.Subscriber self.old self.new }
+        ensures ready { StaysReadyWith S.Subscriber KeepsRules self.old self.new }
         ensures served { AnswersDrop S.Subscriber call.now result self.old self.new }
         ensures asks { AsksCall S.Subscriber call.now result self.old self.new }
     {

@@ -2,7 +2,7 @@
 use Rattle.std.proofs.Common.{◌≡◌, List, Ok, length}
 use Rattle.std.specs.declared.alloc.Global.{Global}
 use Rattle.std.specs.declared.vec.Vec.{Vec}
-use Rattle.span_dispatch.specs.Contract.{ServesList, StaysReadyByRules, SubscriberOf}
+use Rattle.span_dispatch.specs.Contract.{ServesList, StaysReadyWith, SubscriberOf}
 use Rattle.span_dispatch.specs.declared.dispatch.Dispatch.{Dispatch}
 use Rattle.span_dispatch.specs.declared.request.Answer.{Answer}
 use Rattle.span_dispatch.specs.declared.request.Request.{Request}
@@ -12,6 +12,7 @@ use Rattle.span_layers.specs.Observe.{ObserverSteps}
 use Rattle.span_registry.specs.Position.{Heard}
 use Rattle.span_fmt.specs.Serve.{ServesOutermost, WithObserver, observer_position}
 use Rattle.span_fmt.specs.Told.{ObserverHears, WritesWhatItHears}
+use Rattle.span_registry.specs.Reload.{KeepsRules}
 
 -- what such a stack says of its outermost observer is that it goes by these steps
 abbrev pub HearsBySteps : {T S : Type 0} → SubscriberOf (WithObserver T S) → ObserverSteps T → Type 0
@@ -21,7 +22,8 @@ HearsBySteps {T} {S} s observed =
 
 module _ {T S : Type 0} {s : SubscriberOf (WithObserver T S)} (observed : ObserverSteps T) {writes : Heard → T → T → Type 0} where
   pub served_outermost : WritesWhatItHears observed writes
-      → HearsBySteps s observed → (requests : List Request) (answers : Vec Answer Global) (old new : Dispatch (WithObserver T S)) → StaysReadyByRules s old new
+      → HearsBySteps s observed
+      → (requests : List Request) (answers : Vec Answer Global) (old new : Dispatch (WithObserver T S)) → StaysReadyWith s KeepsRules old new
       → ServesList s requests old new answers → length answers.items ≡ length requests → ServesOutermost writes s requests (Ok answers) old new
   served_outermost law hears requests answers old new ready served each = record {
     ready = ready;

@@ -6,7 +6,7 @@ use Rattle.span_core.specs.declared.error.TraceError.TheVariants.{OutOfMemory}
 use Rattle.span_core.specs.declared.error.TraceError.{TraceError}
 use Rattle.span_core.specs.declared.level.LevelFilter.{LevelFilter}
 use Rattle.span_dispatch.specs.Alone.{passed_at}
-use Rattle.span_dispatch.specs.Contract.{StaysReadyByRules, SubscriberOf}
+use Rattle.span_dispatch.specs.Contract.{StaysReadyWith, SubscriberOf}
 use Rattle.span_dispatch.specs.Serve.{IsReadySomehow, Served, flat, stack_of}
 use Rattle.span_dispatch.specs.declared.dispatch.Dispatch.{Dispatch}
 use Rattle.span_dispatch.specs.declared.request.Answer.{Answer}
@@ -18,6 +18,7 @@ use Rattle.span_stacks.specs.declared.filtered.Filtered.{Filtered}
 use Rattle.span_stacks.specs.declared.layered.Layered.{Layered}
 use Rattle.span_layers.specs.declared.observe.Observer.{Observer}
 use Rattle.span_registry.specs.Position.{Heard, Here, Outer, Position, Under}
+use Rattle.span_registry.specs.Reload.{KeepsRules}
 
 -- a stack, and outside it an observer under a level
 abbrev pub WithObserver : Type 0 → Type 0 → Type 0
@@ -56,7 +57,7 @@ module _ {T S : Type 0} (writes : Heard → T → T → Type 0)
   pub record ServesOutermost (requests : List Request)
       (given : Result (Vec Answer Global) TraceError) (old new : Dispatch (WithObserver T S))
       : Type 0 where
-    pub ready : StaysReadyByRules s old new
+    pub ready : StaysReadyWith s KeepsRules old new
     pub written : IfOk given (ServesWritten requests old new)
     pub length : IfOk given (λ answers. length answers.items ≡ length requests)
     pub memory : IfErr given (λ e. e ≡ OutOfMemory)

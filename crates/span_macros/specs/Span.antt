@@ -10,11 +10,10 @@ use Rattle.span_dispatch.specs.Admission.{learned_if}
 use Rattle.span_dispatch.specs.Cache.{is_above_read}
 use Rattle.span_dispatch.specs.Call.{DropsSpan, OpensFor}
 use Rattle.span_dispatch.specs.declared.call.Call.TheVariants.{DropHandle, Enter, OpenSpan}
-use Rattle.span_dispatch.specs.Contract.{AnswersCall, AnswersDrop, ChangesStack, DropsOneHandle, ExitsSpan, GoesByKept, OpensIfMade, RefusesSpan, SameStack, StaysUpToDate, SubscriberOf, TakesHandle, TakesStep, WantsSpan, registry_of}
+use Rattle.span_dispatch.specs.Contract.{AnswersCall, AnswersDrop, ChangesStack, DropsOneHandle, ExitsSpan, GoesByKept, IsSettled, RefusesSpan, SameStack, StaysUpToDate, SubscriberOf, TakesHandle, TakesStep, WantsSpan}
 use Rattle.span_dispatch.specs.Serve.{hint_by, kept_by}
 use Rattle.span_dispatch.specs.declared.request.Answer.TheVariants.{Done, Dropped, Made, Yes}
 use Rattle.span_dispatch.specs.declared.dispatch.Dispatch.{Dispatch}
-use Rattle.span_store.specs.Closes.{HasNoClosing}
 use Rattle.span_store.specs.Step.{Enters, Exits, RefusesRelease, entered, exited}
 use Rattle.span_store.specs.Store.{RegistryState}
 
@@ -36,7 +35,7 @@ module _ {S : Type 0} (s : SubscriberOf S) where
       (old new : Dispatch S) : Type 0 where
     pub between : Dispatch S
     pub opened : AnswersCall s (OpenSpan lane attrs) (Made id) old between
-    pub stored : OpensIfMade s lane attrs old between (Some id)
+    pub stored : TakesStep s (OpensFor lane attrs id) old between
     pub entered : AnswersCall s (Enter lane id) Done between new
     pub stacked : TakesStep s (Enters lane id) between new
     pub rest : ChangesStack between new
@@ -57,7 +56,7 @@ module _ {S : Type 0} (s : SubscriberOf S) where
     pub between : Dispatch S
     pub error : e ≡ OutOfMemory
     pub opened : AnswersCall s (OpenSpan lane attrs) (Made id) old between
-    pub stored : OpensIfMade s lane attrs old between (Some id)
+    pub stored : TakesStep s (OpensFor lane attrs id) old between
     pub keeps : kept_by new ≡ learned_if (is_above_read (hint_by new) (metadata_of attrs))
         (kept_by old) (metadata_of attrs)
     pub dropped : AnswersDrop s (DropHandle lane id) (Yes true) between new
@@ -81,8 +80,7 @@ module _ {S : Type 0} (s : SubscriberOf S) where
   -- registry, hooks' extensions aside
   abbrev pub LeavesSettled : Lane → Id → Dispatch S → Dispatch S → Bool → Type 0
   LeavesSettled lane id old new closes =
-      HasNoClosing (registry_of s old).store.spans
-      → TakesStep s (LeavesStack lane id closes) old new
+      IsSettled s old → TakesStep s (LeavesStack lane id closes) old new
 
   -- a lane left a span, and then a handle of it was taken, unless that was refused
   pub record ExitsAndDrops (lane : Lane) (id : Id) (given : Result Bool TraceError)

@@ -1,5 +1,5 @@
 //! What `in_span!` does before its block and after it.
-ghost use Rattle.span_dispatch.specs.Contract.{ChangesStack, StaysReady, StaysWithoutClosing};
+ghost use Rattle.span_dispatch.specs.Contract.{ChangesStack, IsSettled, StaysReady};
 ghost use Rattle.span_dispatch.specs.Registration.{KeepsRegistered};
 ghost use Rattle.span_dispatch.specs.Serve.{stack_of};
 ghost use Rattle.span_macros.specs.Span.{LeavesIfMade, OpensToEnter};
@@ -21,7 +21,7 @@ pub fn open_and_enter<S: Subscriber>(
     ensures usable { S.usable (stack_of dispatch.new) }
     ensures registered { KeepsRegistered dispatch.old dispatch.new }
     ensures ready { StaysReady S.Subscriber dispatch.old dispatch.new }
-    ensures settled { StaysWithoutClosing S.Subscriber dispatch.old dispatch.new }
+    ensures settled { IsSettled S.Subscriber dispatch.old → IsSettled S.Subscriber dispatch.new }
     ensures opens { OpensToEnter S.Subscriber lane attrs.now result dispatch.old dispatch.new }
 {
     laws::parents_are_open();
@@ -50,7 +50,7 @@ pub fn exit_and_drop<S: Subscriber>(
     ensures usable { S.usable (stack_of dispatch.new) }
     ensures rest { ChangesStack dispatch.old dispatch.new }
     ensures ready { StaysReady S.Subscriber dispatch.old dispatch.new }
-    ensures settled { StaysWithoutClosing S.Subscriber dispatch.old dispatch.new }
+    ensures settled { IsSettled S.Subscriber dispatch.old → IsSettled S.Subscriber dispatch.new }
     ensures left { LeavesIfMade S.Subscriber lane made result dispatch.old dispatch.new }
 {
     let Some(id) = made else {

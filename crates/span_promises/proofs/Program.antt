@@ -28,11 +28,10 @@ use Rattle.span_dispatch.specs.Alone.{passed, passed_at}
 use Rattle.span_dispatch.specs.Cache.{KeptCallsites}
 use Rattle.span_dispatch.specs.Call.{DropsHandle}
 use Rattle.span_dispatch.specs.private.Step.{closes_of}
-use Rattle.span_dispatch.specs.Fixed.{Formed, set_at}
 use Rattle.span_dispatch.specs.Outcome.{HandleTaken, IsVerdict, Noticed, Opened, Outcome, OutcomeAt, Quiet, Steps, given_in}
 use Rattle.span_dispatch.specs.Readable.{ClosesAsItOpened}
 use Rattle.span_dispatch.specs.Recorder.{kept_notice, kept_on}
-use Rattle.span_dispatch.specs.Serve.{flat, resolved}
+use Rattle.span_dispatch.specs.Serve.{Formed, flat, resolved}
 use Rattle.span_dispatch.specs.declared.call.Call.TheVariants.{DropHandle, Enter, Exit}
 use Rattle.span_dispatch.specs.declared.recorded.Recorded.TheVariants as kept
 use Rattle.span_dispatch.specs.declared.recorded.Recorded.{Recorded}
@@ -58,6 +57,7 @@ use Rattle.span_promises.proofs.Stack.{form_by, inner_place, outer_place}
 use Rattle.span_promises.proofs.Wanted.{AskedIn, MakesIn, RunIn, ServesIn, form_after, form_goes, request_form, request_kept}
 use Rattle.span_promises.specs.Program.{HasRefusal}
 use Rattle.span_promises.specs.Promises.{Levels, levels_after}
+use Rattle.span_dispatch.specs.private.Fixed.{set_at}
 
 abbrev Values : Type 0
 Values = Bor (List (Bor (List ℕ) × FieldValue))

@@ -21,7 +21,6 @@ use Rattle.span_dispatch.proofs.Fixed.{runs_by}
 use Rattle.span_dispatch.proofs.Seen.{run_folds}
 use Rattle.span_dispatch.specs.Alone.{passed_at}
 use Rattle.span_dispatch.specs.Cache.{KeptCallsites, no_callsite}
-use Rattle.span_dispatch.specs.Fixed.{RunsBy}
 use Rattle.span_dispatch.specs.Recorder.{RecorderState, Records, kept_notice, new_recorder}
 use Rattle.span_dispatch.specs.Serve.{Served, flat, kept_by, stack_of}
 use Rattle.span_dispatch.specs.declared.dispatch.Dispatch.{Dispatch}
@@ -47,6 +46,7 @@ use Rattle.span_promises.specs.Promises.{ClosesChildrenFirst, ClosesOnce, DropsN
 use Rattle.span_promises.specs.Two.{Answered, Two, inner_recorder, outer_recorder}
 use Rattle.std.specs.Ordering.{nat_cmp}
 use Rattle.span_registry.specs.Position.{Here, Outer, Under}
+use Rattle.span_dispatch.specs.private.Fixed.{RunsBy}
 
 abbrev pub ServesTwo : List Request → List Answer → Dispatch Two → Dispatch Two → Type 0
 ServesTwo = Served inner_of with_inner two_form two_steps two_levels two_hears two_acts

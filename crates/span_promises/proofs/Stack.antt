@@ -7,7 +7,6 @@ use Rattle.span_core.specs.declared.filter.FilterId.{FilterId}
 use Rattle.span_core.specs.declared.filter.TheConstants.FilterId.{LIMIT}
 use Rattle.span_core.specs.declared.level.LevelFilter.{LevelFilter}
 use Rattle.span_targets.specs.declared.setting.Setting.{Setting}
-use Rattle.span_dispatch.specs.Fixed.{set_at}
 use Rattle.span_dispatch.specs.Recorder.{RecorderState, new_recorder, recorder_steps}
 use Rattle.span_dispatch.specs.Serve.{IsReady}
 use Rattle.span_filters.specs.Filter.{settled_answers, unmoved}
@@ -45,6 +44,7 @@ use Rattle.span_promises.specs.Promises.{Levels}
 use Rattle.span_promises.specs.Two.{One, Two}
 use Rattle.span_targets.specs.Setting.{level_in}
 use Rattle.span_targets.specs.declared.setting.Setting.TheVariants.{Directives, Level}
+use Rattle.span_dispatch.specs.private.Fixed.{set_at}
 use Rattle.std.specs.Option.{unwrap_or}
 
 -- ---- what the types say

@@ -20,9 +20,8 @@ use Rattle.span_dispatch.specs.Admission.{IsDecided, is_let_by}
 use Rattle.span_dispatch.specs.Cache.{KeptCallsites}
 use Rattle.span_dispatch.specs.Call.{AnswersWith, LeavesSpan, vetoes_whole}
 use Rattle.span_dispatch.specs.private.Step.{ServesRequest, closes_of}
-use Rattle.span_dispatch.specs.Fixed.{Formed, set_at}
 use Rattle.span_dispatch.specs.Outcome.{LayersGo, Reloaded, Makes, Noticed, Outcome, OutcomeAt, Quiet}
-use Rattle.span_dispatch.specs.Serve.{Run, ServesAsked, call_of, resolved, resolved_parent}
+use Rattle.span_dispatch.specs.Serve.{Formed, Run, ServesAsked, call_of, resolved, resolved_parent}
 use Rattle.span_dispatch.specs.declared.call.Call.{Call}
 use Rattle.span_dispatch.specs.declared.call.Call.TheVariants.{AddHandle, AskCurrent, DropHandle, Enter, Exit, Follow, OpenSpan, Probe, RecordValues, SendEvent}
 use Rattle.span_dispatch.specs.declared.call.Call.TheVariants.{Reload}
@@ -41,6 +40,7 @@ use Rattle.span_promises.proofs.MadeCall.{in_effect}
 use Rattle.span_promises.proofs.Stack.{form_by, form_set}
 use Rattle.span_promises.specs.MadeCall.{Effect, HasOutcomes, NoAnswer, NoEffect, OfDrop, OfExit, OneOutcome, effect_of}
 use Rattle.span_promises.specs.Promises.{IsWanted, Levels, NoneWantedIsDropped, levels_after, one_passes}
+use Rattle.span_dispatch.specs.private.Fixed.{set_at}
 
 -- ---- what is wanted isn't unwanted
 

@@ -4,9 +4,8 @@ use Rattle.std.specs.List.{FoldsTo}
 use Rattle.span_targets.specs.declared.setting.Setting.{Setting}
 use Rattle.span_dispatch.specs.Cache.{KeptCallsites}
 use Rattle.span_dispatch.specs.declared.call.Call.{Call}
-use Rattle.span_dispatch.specs.Fixed.{Formed}
 use Rattle.span_dispatch.specs.Outcome.{IsHonest, LayersGo, Reloaded, OutcomeAt, Makes, Noticed, Outcome, Quiet}
-use Rattle.span_dispatch.specs.Serve.{Run, ServesAsked, call_of}
+use Rattle.span_dispatch.specs.Serve.{Formed, Run, ServesAsked, call_of}
 use Rattle.span_dispatch.specs.declared.request.Answer.{Answer}
 use Rattle.span_dispatch.specs.declared.request.Request.{Request}
 use Rattle.span_store.specs.Store.{RegistryState, Store}

@@ -2,9 +2,8 @@
 -- registry alone.
 use Rattle.std.specs.Prelude.{◌≡◌, ℕ, if◌then◌else◌, List, []}
 use Rattle.span_dispatch.specs.Cache.{KeptCallsites}
-use Rattle.span_dispatch.specs.Fixed.{Formed}
 use Rattle.span_dispatch.specs.Outcome.{OutcomeAt}
-use Rattle.span_dispatch.specs.Serve.{Run}
+use Rattle.span_dispatch.specs.Serve.{Formed, Run}
 use Rattle.span_dispatch.specs.declared.request.Answer.{Answer}
 use Rattle.span_dispatch.specs.declared.request.Request.{Request}
 use Rattle.span_filters.specs.Setting.{setting_answers}

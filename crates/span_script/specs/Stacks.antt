@@ -7,10 +7,9 @@ use Rattle.span_core.specs.declared.level.LevelFilter.{LevelFilter}
 use Rattle.span_core.specs.declared.level.TheConstants.LevelFilter.{INFO, TRACE, WARN}
 use Rattle.span_dispatch.specs.Cache.{KeptCallsites, no_callsite}
 use Rattle.span_dispatch.specs.Contract.{SubscriberOf}
-use Rattle.span_dispatch.specs.Fixed.{kept_at}
 use Rattle.span_dispatch.specs.Outcome.{OutcomeAt}
 use Rattle.span_dispatch.specs.Recorder.{RecorderState, new_recorder}
-use Rattle.span_dispatch.specs.Serve.{IsReady, Served, kept_by, stack_of}
+use Rattle.span_dispatch.specs.Serve.{IsReady, Served, kept_at, kept_by, stack_of}
 use Rattle.span_shared.specs.Worker.{WorkerState}
 use Rattle.span_dispatch.specs.declared.dispatch.Dispatch.{Dispatch}
 use Rattle.span_dispatch.specs.declared.recorded.Recorded.{Recorded}

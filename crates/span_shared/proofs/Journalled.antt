@@ -22,7 +22,7 @@ use Rattle.span_dispatch.specs.declared.call.Call.TheVariants.{Reload}
 use Rattle.span_dispatch.specs.declared.call.Call.{Call}
 use Rattle.span_dispatch.specs.declared.request.Answer.{Answer}
 use Rattle.span_shared.specs.Journal.{Adds, Entry, Happens, KeepsJournal, Leaves, LoggedState, Placed, bare}
-use Rattle.span_shared.specs.Logged.{AddsNewSpan, Answered, Gave, Logs, LogsCall}
+use Rattle.span_shared.specs.Logged.{AddsNewSpan, Answered, Logs, LogsAs, LogsCall}
 use Rattle.span_shared.specs.Worker.{SomeLogged}
 use Rattle.span_dispatch.specs.Serve.{stack_of}
 use Rattle.span_dispatch.specs.declared.dispatch.Dispatch.{Dispatch}
@@ -66,7 +66,7 @@ longer e old receipt new h = ap length h.journal ∙ length_push old e
 module _ {D A : Type 0} {serves : Result A TraceError → D → D → Type 0} {adds : A × Placed → LoggedState D → LoggedState D → Type 0}
     (answer_of : Result A TraceError → Answer) (old new : LoggedState D) (a : Answered Answer) where
   -- what was logged so made the journal longer by one entry, unless it was refused
-  grew : Gave answer_of a (λ r. Logs serves adds r old new) → ((r : A × Placed) → adds r old new → length new.journal ≡ length old.journal + 1)
+  grew : LogsAs answer_of serves adds a old new → ((r : A × Placed) → adds r old new → length new.journal ≡ length old.journal + 1)
       → GrowsBy a old.journal new.journal
   grew (Ok r, e, l) more = subst (λ b. GrowsBy b old.journal new.journal) (sym e) (more r l.done.1)
   grew (Err x, e, l) more = subst (λ b. GrowsBy b old.journal new.journal) (sym e) (same l.refused)

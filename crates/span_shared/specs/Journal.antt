@@ -1,14 +1,10 @@
 -- A journal of requests: when an entry may happen in a store, and which store it leaves.
 use Rattle.std.specs.Prelude.{◌≡◌, ◌↔◌, ℕ, Bool, false, IsTrue, List, [], ◌∷◌, ◌++◌, Option, Some, length, slice_get}
-use Rattle.std.specs.FinMap.{empty, insert}
-use Rattle.std.specs.FinSet.{contains, insert as add}
-use Rattle.std.specs.List.{FoldsTo}
-use Rattle.std.specs.Option.{option_map}
+use Rattle.std.specs.{FinMap.empty, FinMap.insert, FinSet.contains, FinSet.insert as add}
+use Rattle.std.specs.{List.FoldsTo, Option.option_map}
 use Rattle.span_core.specs.Span.{number_of}
-use Rattle.span_core.specs.declared.filter.FilterMap.{FilterMap}
-use Rattle.span_core.specs.declared.metadata.Metadata.{Metadata}
-use Rattle.span_core.specs.declared.span.Id.{Id}
-use Rattle.span_core.specs.declared.span.Lane.{Lane}
+use Rattle.span_core.specs.declared.{filter.FilterMap.FilterMap, metadata.Metadata.Metadata}
+use Rattle.span_core.specs.declared.span.{Id.Id, Lane.Lane}
 use Rattle.span_dispatch.specs.Serve.{stack_of}
 use Rattle.span_dispatch.specs.declared.dispatch.Dispatch.{Dispatch}
 use Rattle.span_shared.specs.declared.entry.EntryWith.TheVariants.{New, Unmade, Event, Probe, Enter, Exit, Record, Follows, Clone, Drop, Reload, Current}
@@ -107,8 +103,3 @@ pub record LoggedState (D : Type 0) : Type 0 where
 pub record Adds (e : Entry) (old : List Entry) (receipt : Placed) (new : List Entry) : Type 0 where
   pub shown : receipt ≡ record { place = length old; entry = e }
   pub journal : new ≡ old ++ e ∷ []
-
--- the stack and the journal are unchanged
-pub record KeepsStack {S : Type 0} (old new : LoggedState (Dispatch S)) : Type 0 where
-  pub stack : stack_of new.dispatch ≡ stack_of old.dispatch
-  pub journal : new.journal ≡ old.journal

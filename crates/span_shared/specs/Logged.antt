@@ -1,26 +1,20 @@
 -- What the contract of each call of a logged dispatcher says: what the dispatcher promises of it,
 -- and which entry it adds, where it isn't refused.
 use Rattle.std.specs.Prelude.{◌≡◌, ◌⊎◌, Bool, Option, None, Some, Result, Ok, Err, IfErr, IfOk}
-use Rattle.std.specs.FinMap.{get}
-use Rattle.std.specs.Option.{option_map}
+use Rattle.std.specs.{FinMap.get, Option.option_map}
 use Rattle.span_core.specs.Event.{event_metadata, event_parent}
 use Rattle.span_core.specs.Span.{asked_parent, current_span, metadata_of, number_of}
-use Rattle.span_core.specs.declared.error.TraceError.TheVariants.{OutOfMemory}
-use Rattle.span_core.specs.declared.error.TraceError.{TraceError}
+use Rattle.span_core.specs.declared.error.TraceError.{TheVariants.OutOfMemory, TraceError}
 use Rattle.span_core.specs.declared.event.Event.{Event}
-use Rattle.span_core.specs.declared.span.Attributes.{Attributes}
-use Rattle.span_core.specs.declared.span.Current.{Current}
-use Rattle.span_core.specs.declared.span.Id.{Id}
-use Rattle.span_core.specs.declared.span.Lane.{Lane}
+use Rattle.span_core.specs.declared.span.{Attributes.Attributes, Current.Current, Lane.Lane, Id.Id}
 use Rattle.span_dispatch.specs.Call.{done_answer, event_answer, look_answer, span_answer, yes_answer}
 use Rattle.span_dispatch.specs.Contract.{ClonesSpan, DropsOneHandle, EntersSpan, ExitsSpan, FollowsSpan, OpensSpan, Probes, RecordsValues, SendsEvent, ServesCurrent, ReloadsFilter, Shows, SubscriberOf, registry_of}
 use Rattle.span_shared.specs.Journal.{Adds, Entry, LoggedState, Placed}
 use Rattle.span_dispatch.specs.declared.call.Call.TheVariants.{AddHandle, AskCurrent, DropHandle, Enter, Exit, Follow, OpenSpan, Probe, RecordValues, SendEvent, Reload}
 use Rattle.span_dispatch.specs.declared.call.Call.{Call}
-use Rattle.span_dispatch.specs.declared.dispatch.Dispatch.{Dispatch}
+use Rattle.span_dispatch.specs.declared.{dispatch.Dispatch.Dispatch, request.Answer.Answer}
 use Rattle.span_shared.specs.declared.entry.EntryWith.TheVariants as entry
-use Rattle.span_dispatch.specs.declared.request.Answer.{Answer}
-use Rattle.span_store.specs.Store.{Span, Spans}
+use Rattle.span_store.specs.Store.{Span}
 use Rattle.span_targets.specs.Setting.{level_in}
 
 -- an answer with its receipt, or why the call was refused
@@ -37,10 +31,6 @@ abbrev pub NeverRefused : {D A : Type 0} → (A → D → D → Type 0) → Resu
     → Type 0
 NeverRefused serves (Ok a) old new = serves a old new
 NeverRefused serves (Err e) old new = ⊥
-
--- a call is refused for want of memory, or as the dispatcher refuses it
-abbrev pub OrNoMemory : (TraceError → Type 0) → TraceError → Type 0
-OrNoMemory refuses e = (e ≡ OutOfMemory) ⊎ refuses e
 
 -- the entry of a call, made of what the call gave, was appended to the journal, and the receipt is
 -- of it
@@ -63,12 +53,13 @@ abbrev pub answered : {A : Type 0} → (Result A TraceError → Answer) → Answ
 answered answer_of (Ok r) = Ok (answer_of (Ok r.0), r.1)
 answered answer_of (Err e) = Err e
 
--- a call gave a result of which this is the answer with its receipt, and the predicate holds of
--- that result
-abbrev pub Gave : {A : Type 0} → (Result A TraceError → Answer) → Answered Answer
-    → (Answered A → Type 0) → Type 0
-Gave {A} answer_of result holds =
-    (given : Answered A) × (result ≡ answered answer_of given) × holds given
+-- a call was served and logged so, and this is what it gave, as an answer with the same receipt
+abbrev pub LogsAs : {D A : Type 0} → (Result A TraceError → Answer)
+    → (Result A TraceError → D → D → Type 0)
+    → (A × Placed → LoggedState D → LoggedState D → Type 0) → Answered Answer → LoggedState D
+    → LoggedState D → Type 0
+LogsAs {D} {A} answer_of serves adds result old new =
+    (given : Answered A) × (result ≡ answered answer_of given) × Logs serves adds given old new
 
 -- the entry of an event, by whether it was made
 abbrev pub event_entry : Lane → Event → Bool → Entry
@@ -78,23 +69,17 @@ event_entry lane e made = entry.Event lane (event_metadata e) (event_parent e) m
 abbrev pub current_entry : Lane → Current → Entry
 current_entry lane shown = entry.Current lane (option_map (λ o. o.0) (current_span shown))
 
--- the entry of a new span was appended: of one that was made with its verdict in these spans, or of
--- one that wasn't
-abbrev pub AddsSpan : {D : Type 0} → Lane → Attributes → Spans → Option Id × Placed → LoggedState D
-    → LoggedState D → Type 0
-AddsSpan lane attrs spans (None, receipt) old new =
-    Adds (entry.Unmade lane (metadata_of attrs)) old.journal receipt new.journal
-AddsSpan lane attrs spans (Some id, receipt) old new =
-    (kept : Span) × (get spans (number_of id) ≡ Some kept)
-    × Adds (entry.New lane (metadata_of attrs) (asked_parent attrs) kept.verdict id) old.journal
-    receipt new.journal
-
 module _ {S : Type 0} (s : SubscriberOf S) where
-  -- the entry of a new span was appended, with the verdict that the store has of it
+  -- the entry of a new span was appended: of one that was made, with the verdict that the store has
+  -- of it, or of one that wasn't
   abbrev pub AddsNewSpan : Lane → Attributes → Option Id × Placed → LoggedState (Dispatch S)
       → LoggedState (Dispatch S) → Type 0
-  AddsNewSpan lane attrs r old new =
-      AddsSpan lane attrs (registry_of s new.dispatch).store.spans r old new
+  AddsNewSpan lane attrs (None, receipt) old new =
+      Adds (entry.Unmade lane (metadata_of attrs)) old.journal receipt new.journal
+  AddsNewSpan lane attrs (Some id, receipt) old new =
+      (kept : Span) × (get (registry_of s new.dispatch).store.spans (number_of id) ≡ Some kept)
+      × Adds (entry.New lane (metadata_of attrs) (asked_parent attrs) kept.verdict id) old.journal
+      receipt new.journal
 
   -- the current span is shown, and nothing changes
   abbrev pub ShowsSpan : Lane → Current → Dispatch S → Dispatch S → Type 0
@@ -105,38 +90,27 @@ module _ {S : Type 0} (s : SubscriberOf S) where
   -- is
   abbrev pub LogsCall : Lane → Call → Answered Answer → LoggedState (Dispatch S)
       → LoggedState (Dispatch S) → Type 0
-  LogsCall lane (OpenSpan l attrs) a old new =
-      Gave span_answer a
-      (λ r. Logs (OpensSpan s lane attrs) (AddsNewSpan lane attrs) r old new)
-  LogsCall lane (SendEvent l e) a old new =
-      Gave event_answer a
-      (λ r. Logs (SendsEvent s lane e) (AddsEntry (event_entry lane e)) r old new)
-  LogsCall lane (Enter l id) a old new =
-      Gave done_answer a
-      (λ r. Logs (EntersSpan s lane id) (AddsEntry (λ u. entry.Enter lane id)) r old new)
-  LogsCall lane (Exit l id) a old new =
-      Gave {A = Unit {0}} done_answer a
-      (λ r. Logs (NeverRefused (λ u. ExitsSpan s lane id)) (AddsEntry (λ u. entry.Exit lane id)) r
-      old new)
-  LogsCall lane (RecordValues l id values) a old new =
-      Gave done_answer a
-      (λ r. Logs (RecordsValues s lane id values) (AddsEntry (λ u. entry.Record lane id)) r old new)
-  LogsCall lane (Follow l id other) a old new =
-      Gave done_answer a
-      (λ r. Logs (FollowsSpan s lane id other) (AddsEntry (λ u. entry.Follows lane id other)) r old
-      new)
-  LogsCall lane (AddHandle l id) a old new =
-      Gave done_answer a
-      (λ r. Logs (ClonesSpan s lane id) (AddsEntry (λ u. entry.Clone lane id)) r old new)
-  LogsCall lane (DropHandle l id) a old new =
-      Gave yes_answer a
-      (λ r. Logs (DropsOneHandle s lane id) (AddsEntry (entry.Drop lane id)) r old new)
-  LogsCall lane (Probe l m) a old new =
-      Gave yes_answer a (λ r. Logs (Probes s lane m) (AddsEntry (entry.Probe lane m)) r old new)
-  LogsCall lane (AskCurrent l) a old new =
-      Gave look_answer a
-      (λ r. Logs (NeverRefused (ShowsSpan lane)) (AddsEntry (current_entry lane)) r old new)
-  LogsCall lane (Reload n setting) a old new =
-      Gave {A = Unit {0}} done_answer a
-      (λ r. Logs (ReloadsFilter s n setting)
-      (AddsEntry (λ u. entry.Reload lane n (level_in setting))) r old new)
+  LogsCall lane (OpenSpan l attrs) =
+      LogsAs span_answer (OpensSpan s lane attrs) (AddsNewSpan lane attrs)
+  LogsCall lane (SendEvent l e) =
+      LogsAs event_answer (SendsEvent s lane e) (AddsEntry (event_entry lane e))
+  LogsCall lane (Enter l id) =
+      LogsAs done_answer (EntersSpan s lane id) (AddsEntry (λ u. entry.Enter lane id))
+  LogsCall lane (Exit l id) =
+      LogsAs {A = Unit {0}} done_answer (NeverRefused (λ u. ExitsSpan s lane id))
+      (AddsEntry (λ u. entry.Exit lane id))
+  LogsCall lane (RecordValues l id values) =
+      LogsAs done_answer (RecordsValues s lane id values) (AddsEntry (λ u. entry.Record lane id))
+  LogsCall lane (Follow l id other) =
+      LogsAs done_answer (FollowsSpan s lane id other)
+      (AddsEntry (λ u. entry.Follows lane id other))
+  LogsCall lane (AddHandle l id) =
+      LogsAs done_answer (ClonesSpan s lane id) (AddsEntry (λ u. entry.Clone lane id))
+  LogsCall lane (DropHandle l id) =
+      LogsAs yes_answer (DropsOneHandle s lane id) (AddsEntry (entry.Drop lane id))
+  LogsCall lane (Probe l m) = LogsAs yes_answer (Probes s lane m) (AddsEntry (entry.Probe lane m))
+  LogsCall lane (AskCurrent l) =
+      LogsAs look_answer (NeverRefused (ShowsSpan lane)) (AddsEntry (current_entry lane))
+  LogsCall lane (Reload n setting) =
+      LogsAs {A = Unit {0}} done_answer (ReloadsFilter s n setting)
+      (AddsEntry (λ u. entry.Reload lane n (level_in setting)))

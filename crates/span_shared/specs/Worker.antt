@@ -1,11 +1,9 @@
 -- What a worker of a shared dispatcher is, and what is said of its calls.
 use Rattle.std.specs.Prelude.{◌≡◌, ℕ, ◌+◌, List, Option, None, Some, slice_get}
 use Rattle.std.specs.List.{sum_by}
-use Rattle.span_core.specs.declared.level.LevelFilter.{LevelFilter}
-use Rattle.span_core.specs.declared.span.Lane.{Lane}
+use Rattle.span_core.specs.declared.{level.LevelFilter.LevelFilter, span.Lane.Lane}
 use Rattle.span_dispatch.specs.Contract.{ShowsHint, ShowsKept, SubscriberOf}
-use Rattle.span_dispatch.specs.Recorder.{lane_of}
-use Rattle.span_dispatch.specs.Serve.{kept_by}
+use Rattle.span_dispatch.specs.{Recorder.lane_of, Serve.kept_by}
 use Rattle.span_dispatch.specs.declared.dispatch.Dispatch.{Dispatch}
 use Rattle.span_shared.specs.Journal.{Entry, KeepsJournal, LoggedState}
 

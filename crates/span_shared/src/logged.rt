@@ -1,6 +1,6 @@
 //! The accepted requests of a dispatcher, in order, and a dispatcher that keeps them.
 ghost use Rattle.std.specs.Prelude.{◌≡◌, ◌<◌, ◌↔◌, [], IsTrue, OnErr, OnOk, IfErr, IfOk, None, Some, false, true, length, slice_get, vec_capacity, vec_len};
-ghost use Rattle.span_dispatch.specs.Contract.{ClonesSpan, DropsAll, DropsOneHandle, EntersSpan, ExitsSpan, FollowsSpan, OpensSpan, Probes, RecordsValues, SendsEvent, ReloadsFilter, StaysReady, StaysReadyBut, StaysReadyByRules};
+ghost use Rattle.span_dispatch.specs.Contract.{ClonesSpan, DropsAll, DropsOneHandle, EntersSpan, ExitsSpan, FollowsSpan, OpensSpan, Probes, RecordsValues, SendsEvent, ReloadsFilter, StaysReady, StaysReadyWith};
 ghost use Rattle.span_shared.specs.Journal.{Adds, KeepsJournal, Leaves, Stands, holds_by};
 ghost use Rattle.span_shared.specs.Logged.{AddsEntry, AddsNewSpan, Logs, LogsCall, NeverRefused, On, ShowsSpan, answered, current_entry, event_entry};
 ghost use Rattle.span_dispatch.specs.Call.{done_answer, event_answer, look_answer, span_answer, yes_answer};
@@ -8,6 +8,7 @@ ghost use Rattle.span_dispatch.specs.Serve.{stack_of};
 ghost use Rattle.span_store.specs.Closes.{HasNoClosing};
 ghost use Rattle.span_store.specs.Store.{IsFresh};
 ghost use Rattle.span_targets.specs.Setting.{level_in};
+ghost use Rattle.span_registry.specs.Reload.{KeepsRules, ReloadedForm};
 
 use crate::entry::{Entry, EntryWith};
 use span_core::{Attributes, Current, Event, Id, Lane, Metadata, Pass, Record, TraceError};
@@ -373,7 +374,7 @@ impl<S: Subscriber> Logged<S> {
         number: u32,
         setting: Setting,
     ) -> Result<((), Receipt), TraceError>
-        ensures ready { On (StaysReadyBut S.Subscriber number) self.old self.new }
+        ensures ready { On (StaysReadyWith S.Subscriber (ReloadedForm number)) self.old self.new }
         ensures logs { Logs (ReloadsFilter S.Subscriber number setting)
             (AddsEntry (λ _. EntryWith.Reload lane number (level_in setting)))
             result self.old self.new }
@@ -404,7 +405,7 @@ impl<S: Subscriber> Logged<S> {
     ///
     /// Own to this port.
     pub fn ask(&mut self, lane: Lane, call: &Call<'_>) -> Result<(Answer, Receipt), TraceError>
-        ensures ready { On (StaysReadyByRules S.Subscriber) self.old self.new }
+        ensures ready { On (StaysReadyWith S.Subscriber KeepsRules) self.old self.new }
         ensures logs { LogsCall S.Subscriber lane call.now result self.old self.new }
     {
         match call {

@@ -1,8 +1,9 @@
 //! Lists of requests, served with a timeline outermost.
 ghost use Rattle.std.specs.Prelude.{IfErr, IfOk};
-ghost use Rattle.span_dispatch.specs.Contract.{StaysReadyByRules};
 ghost use Rattle.span_dispatch.specs.Serve.{stack_of};
 ghost use Rattle.span_times.specs.Serving.{AnswersTimed, FindsNoMemory};
+ghost use Rattle.span_dispatch.specs.Contract.{StaysReadyWith};
+ghost use Rattle.span_registry.specs.Reload.{KeepsRules};
 
 use crate::clock::Now;
 use crate::timeline::Timeline;
@@ -25,7 +26,7 @@ pub fn serve_timed<S: Subscriber, C: Now>(
 ) -> Result<Vec<Answer>, TraceError>
     requires { ⟦<WithTimeline<S, C> as Subscriber>⟧.usable (stack_of dispatch.old) }
     ensures usable { ⟦<WithTimeline<S, C> as Subscriber>⟧.usable (stack_of dispatch.new) }
-    ensures ready { StaysReadyByRules ⟦<WithTimeline<S, C> as Subscriber>⟧ dispatch.old
+    ensures ready { StaysReadyWith ⟦<WithTimeline<S, C> as Subscriber>⟧ KeepsRules dispatch.old
         dispatch.new }
     ensures answered { IfOk result (AnswersTimed C.latest C.gives
         ⟦<WithTimeline<S, C> as Subscriber>⟧ requests.now dispatch.old dispatch.new) }

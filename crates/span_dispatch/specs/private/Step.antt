@@ -1,14 +1,14 @@
 -- Steps of a dispatcher's calls.
-use Rattle.std.specs.Prelude.{◌≡◌, ℕ, List, map, None, Bool, true, Result, Ok, Err}
+use Rattle.std.specs.Prelude.{◌≡◌, ◌⊎◌, ℕ, List, map, None, Bool, true, Result, Ok, Err}
 use Rattle.std.specs.List.{FoldsTo}
 use Rattle.span_core.specs.Span.{id_of}
 use Rattle.span_core.specs.declared.span.Id.{Id}
-use Rattle.span_dispatch.specs.Cache.{KeptCallsites}
+use Rattle.span_dispatch.specs.Cache.{KeptCallsites, RefusesInterest}
 use Rattle.span_dispatch.specs.Outcome.{IsHonest, OutcomeAt, Makes, Noticed, Outcome}
 use Rattle.span_dispatch.specs.declared.dispatch.Dispatch.{Dispatch}
 use Rattle.span_dispatch.specs.declared.request.Answer.{Answer}
 use Rattle.span_dispatch.specs.declared.request.Request.{Request}
-use Rattle.span_store.specs.Step.{Removal}
+use Rattle.span_store.specs.Step.{RefusesNew, Removal}
 use Rattle.span_store.specs.Store.{RegistryState}
 use Rattle.span_core.specs.declared.span.Lane.{Lane}
 use Rattle.span_registry.specs.Behaviour.{OnClose}
@@ -25,7 +25,8 @@ use Rattle.span_dispatch.specs.Admission.{decided, IsDecided, IsUnknown}
 use Rattle.span_dispatch.specs.Serve.{IsReadySomehow, kept_by, stack_of, outcome_of, ServesAsked, call_of}
 use Rattle.span_registry.specs.Question.{asked, refusals}
 use Rattle.span_stacks.specs.Verdict.{vetoes}
-use Rattle.span_dispatch.specs.Contract.{CurrentBy, HonestBy, SubscriberOf, registry_of}
+use Rattle.span_dispatch.specs.Contract.{CurrentBy, HonestBy, PassesKept, SubscriberOf, registry_of}
+use Rattle.span_core.specs.declared.span.Parent.{Parent}
 
 -- the outcomes of closes: a notice for each of these spans
 abbrev pub closes_of : Lane → List ℕ → List Outcome
@@ -39,6 +40,13 @@ IsAdmitted memory f s lane m pass after (Ok said) =
     IsDecided memory f s lane m (vetoes f m s.store lane.0) said after
     × (said ≡ true → asked f m s.store lane.0 no_filter no_filter ≡ (true, refusals pass))
 IsAdmitted memory f s lane m pass after (Err e) = IsUnknown memory f m e after
+
+-- why a new span with these metadata and this parent is refused: their level isn't above the cached
+-- hint, and either their interest can't be had, or the registry has no room or no such parent
+abbrev pub RefusesOpening : {S : Type 0} → (S → RegistryState) → Lane → Metadata → Parent
+    → Dispatch S → TraceError → Type 0
+RefusesOpening registry lane m p d e =
+    PassesKept m d × (RefusesInterest (kept_by d) m e ⊎ RefusesNew (registry (stack_of d)) lane p e)
 
 module _ {S : Type 0} (registry : S → RegistryState) (with_registry : S → RegistryState → S)
     (has_form : S → Form → Type 0) (stepped : StackSteps S) (reloaded : ReloadSteps S) where

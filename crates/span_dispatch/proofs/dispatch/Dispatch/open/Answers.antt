@@ -5,13 +5,12 @@ use Rattle.span_dispatch.proofs.Calls.{dropped_exactly, made_exactly, refused_ex
 use Rattle.span_dispatch.proofs.Goes.{served_so}
 use Rattle.span_dispatch.proofs.Stores.{Wanted, metadata_wanted, opened_by, room_for}
 use Rattle.span_dispatch.proofs.Admits.{below_before, let_by_below}
-use Rattle.span_dispatch.specs.private.Step.{IsAdmitted}
+use Rattle.span_dispatch.specs.private.Step.{IsAdmitted, RefusesOpening}
 use Rattle.span_dispatch.specs.Serve.{KeepsUpToDate, hint_by, kept_by, stack_of, with_stack}
 use Rattle.span_store.specs.Step.{RefusesNew}
 use Rattle.span_registry.specs.Hooks.{OpensAndNotifies}
 use Rattle.span_dispatch.proofs.Sends.{dropped_by, made_by, of_same, refused_first, refused_then}
 use Rattle.span_dispatch.specs.Cache.{RefusesInterest}
-use Rattle.span_dispatch.specs.Contract.{RefusesOpening}
 use Rattle.span_dispatch.proofs.dispatch.Dispatch.open.Goals as goal
 
 pub returns-in-Err-clause-ready : goal.returns-in-Err-clause-ready

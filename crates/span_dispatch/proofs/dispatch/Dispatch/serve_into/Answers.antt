@@ -1,11 +1,10 @@
 use Rattle.std.proofs.Common.{refl, ◌+◌, ap, arith, sym, subst, take, [], ◌∙◌, rules}
 use Rattle.std.proofs.lemmas.List.{take_all, take_more}
 use Rattle.span_dispatch.proofs.Asked.{one_asked}
-use Rattle.span_dispatch.specs.Ask.{AsksEach, AsksFor}
 use Rattle.span_store.specs.Store.{AreIssued, RegistryState}
 use Rattle.span_dispatch.proofs.Served.{SoFar, all_served, nothing_yet, one_more}
 use Rattle.span_dispatch.proofs.dispatch.Dispatch.serve_into.Goals as goal
-use Rattle.span_dispatch.specs.Contract.{SubscriberOf}
+use Rattle.span_dispatch.specs.Contract.{AsksEach, AsksFor, SubscriberOf}
 use Rattle.span_dispatch.specs.Serve.{call_of}
 use Rattle.span_dispatch.specs.private.Step.{ServesNext}
 

@@ -1,9 +1,9 @@
 use Rattle.std.proofs.Common.{◌≡◌, ◌≤◌, [], length, take, vec_len, vec_capacity}
-use Rattle.span_dispatch.specs.Ask.{AsksEach}
 use Rattle.span_dispatch.specs.Registration.{KeepsRegistered}
 use Rattle.span_dispatch.specs.Serve.{stack_of}
 use Rattle.span_dispatch.proofs.Served.{SoFar}
 use Rattle.span_dispatch.proofs.dispatch.Dispatch.serve_into.Given as goal
+use Rattle.span_dispatch.specs.Contract.{AsksEach}
 
 abbrev pub invariant-loop-request : goal.invariant-loop-request
 invariant-loop-request g l = record {

@@ -1,19 +1,15 @@
 -- Stacks whose filters take levels alone: what is made of a list of requests, said of the form and
 -- the registry alone.
-use Rattle.std.specs.Prelude.{◌≡◌, ℕ, if◌then◌else◌, List, [], map}
+use Rattle.std.specs.Prelude.{◌≡◌, ℕ, if◌then◌else◌, List, []}
 use Rattle.span_dispatch.specs.Cache.{KeptCallsites}
 use Rattle.span_dispatch.specs.Outcome.{OutcomeAt}
-use Rattle.span_dispatch.specs.Recorder.{kept_notice}
-use Rattle.span_dispatch.specs.Alone.{passed_at}
-use Rattle.span_dispatch.specs.Serve.{Run, flat}
-use Rattle.span_dispatch.specs.declared.recorded.Recorded.{Recorded}
+use Rattle.span_dispatch.specs.Serve.{Formed, Run}
 use Rattle.span_dispatch.specs.declared.request.Answer.{Answer}
 use Rattle.span_dispatch.specs.declared.request.Request.{Request}
 use Rattle.span_filters.specs.Level.{answers_set}
 use Rattle.span_store.specs.Store.{RegistryState}
 use Rattle.span_registry.specs.Conducts.{filter_numbered}
 use Rattle.span_registry.specs.Form.{Terminal, Filtered, Form, Leaf, Parts}
-use Rattle.span_registry.specs.Position.{Position}
 use Rattle.span_targets.specs.declared.setting.Setting.{Setting}
 
 -- the form once the filter with this number was to take this setting, where each filter that takes
@@ -25,10 +21,6 @@ set_at n s (Filtered m a f) =
 set_at n s (Parts k o i) = Parts k (set_at n s o) (set_at n s i)
 set_at n s (Terminal v) = Terminal v
 
--- a registry, and the form of the layers on it
-abbrev pub Formed : Type 0
-Formed = RegistryState × Form
-
 -- A stack of this form, whose filters take levels alone, answers the requests with these answers,
 -- from one registry and its cached callsites to the others; these outcomes are made of each
 -- request.
@@ -38,7 +30,3 @@ RunsBy f requests answers made kept s after t =
     (g : Form) × Run (λ (r : Formed). r.0) (λ r w. (w, r.1)) (λ r h. h ≡ r.1)
     (λ r p e lane v q w. q.1 ≡ r.1) (λ r n s q. q.1 ≡ set_at n s r.1) [] requests answers made
     kept (s, f) after (t, g)
-
--- what a recorder at a position has of what was made, if all of it fitted into its memory
-abbrev pub kept_at : List (List OutcomeAt) → Position → List Recorded
-kept_at made position = map kept_notice (passed_at position (flat made))
