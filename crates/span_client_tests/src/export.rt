@@ -486,18 +486,24 @@ fn an_error_is_a_status(rt: HostRuntime) -> Result<(), Fail> {
 }
 
 const BOXES: &str = "\
-<g><title>outer{id=7 for=\"a \\\"b\\\"\"}</title>\
+<g><title>outer{id=7 for=\"a \\\"b\\\"\"}
+from 1.000 µs for 8.000 µs</title>\
 <rect class=\"INFO\" x=\"145\" y=\"72\" width=\"584\" height=\"20\"/>\
 <text x=\"150\" y=\"86\">outer</text></g>
-<g><title>inner</title><rect class=\"DEBUG\" x=\"291\" y=\"96\" width=\"219\" height=\"20\"/>\
+<g><title>inner
+from 3.000 µs for 3.000 µs</title>\
+<rect class=\"DEBUG\" x=\"291\" y=\"96\" width=\"219\" height=\"20\"/>\
 <text x=\"296\" y=\"110\">inner</text></g>
-<g><title>?</title><rect class=\"?\" x=\"474\" y=\"144\" width=\"182\" height=\"20\"/>\
+<g><title>?
+from 5.500 µs for 2.500 µs</title><rect class=\"?\" x=\"474\" y=\"144\" width=\"182\" height=\"20\"/>\
 <text x=\"479\" y=\"158\">?</text></g>
-<circle class=\"WARN\" cx=\"364\" cy=\"64\" r=\"4\"><title>&lt;said&gt;{left=-3}</title></circle>
+<circle class=\"WARN\" cx=\"364\" cy=\"64\" r=\"4\"><title>&lt;said&gt;{left=-3}
+at 4.000 µs</title></circle>
 </svg>
 ";
 
-const HEAD: &str = "<svg xmlns=\"http://www.w3.org/2000/svg\" width=\"900\" height=\"176\">
+const HEAD: &str = "\
+<svg xmlns=\"http://www.w3.org/2000/svg\" viewBox=\"0 0 900 176\" width=\"900\" height=\"176\">
 <style>
 ";
 
@@ -531,8 +537,34 @@ fn a_name_is_within_xml(rt: HostRuntime) -> Result<(), Fail> {
     let points = [at(0, 0, Happening::Sent(5, None))];
     let svg = timeline_svg(alloc, &points, names(&sites), 400)?;
     let shown =
-        "<title>a\u{FFFD}\t\u{FFFD}\u{7F}\u{FFFD}\u{FFFD}\u{FFFD}\u{1F600}&lt;&amp;&gt;</title>";
+        "<title>a\u{FFFD}\t\u{FFFD}\u{7F}\u{FFFD}\u{FFFD}\u{FFFD}\u{1F600}&lt;&amp;&gt;\nat";
     assert!(rt; svg.as_str().contains(shown));
+    Ok(())
+}
+
+/// Times after the first point, and what the marks of events say then.
+const MARKED: [(u64, &str); 7] = [
+    (0, "\nat 0 ns</title>"),
+    (999, "\nat 999 ns</title>"),
+    (1000, "\nat 1.000 µs</title>"),
+    (999_999, "\nat 999.999 µs</title>"),
+    (1_099_999, "\nat 1.099 ms</title>"),
+    (1_234_567_890, "\nat 1.234 s</title>"),
+    (61_000_000_009, "\nat 61.000 s</title>"),
+];
+
+#[test]
+fn a_title_tells_the_time(rt: HostRuntime) -> Result<(), Fail> {
+    let alloc = rt.alloc();
+    let sites = sites(alloc)?;
+    for (time, shown) in MARKED {
+        let points = [
+            at(5, 0, Happening::Sent(4, None)),
+            at(time + 5, 0, Happening::Sent(4, None)),
+        ];
+        let svg = timeline_svg(alloc, &points, names(&sites), 400)?;
+        assert!(rt; svg.as_str().contains(shown));
+    }
     Ok(())
 }
 
@@ -643,18 +675,26 @@ fn a_job_shows_its_id(rt: HostRuntime) -> Result<(), Fail> {
     let stacks = folded_text(alloc, &taken.points, taken.table())?;
     assert!(rt; stacks.as_str() == "job{id=7} 1000\n");
     let svg = timeline_svg(alloc, &taken.points, taken.table(), 400)?;
-    assert!(rt; svg.as_str().contains("<title>job{id=7}</title>"));
+    assert!(rt;
+        svg.as_str()
+            .contains("<title>job{id=7}\nfrom 1.000 µs for 1.000 µs</title>")
+    );
     Ok(())
 }
 
 /// The third span is below the second, though the first is left by then; nothing leaves it. There
 /// is no room for its name.
 const OUT_OF_ORDER: &str = "\
-<g><title>outer</title><rect class=\"INFO\" x=\"72\" y=\"72\" width=\"112\" height=\"20\"/>\
+<g><title>outer
+from 0 ns for 20 ns</title><rect class=\"INFO\" x=\"72\" y=\"72\" width=\"112\" height=\"20\"/>\
 <text x=\"77\" y=\"86\">outer</text></g>
-<g><title>inner</title><rect class=\"DEBUG\" x=\"128\" y=\"96\" width=\"168\" height=\"20\"/>\
+<g><title>inner
+from 10 ns for 30 ns</title>\
+<rect class=\"DEBUG\" x=\"128\" y=\"96\" width=\"168\" height=\"20\"/>\
 <text x=\"133\" y=\"110\">inner</text></g>
-<g><title>outer</title><rect class=\"INFO\" x=\"268\" y=\"120\" width=\"28\" height=\"20\"/></g>
+<g><title>outer
+from 35 ns, never left</title>\
+<rect class=\"INFO\" x=\"268\" y=\"120\" width=\"28\" height=\"20\"/></g>
 </svg>
 ";
 

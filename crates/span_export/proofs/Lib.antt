@@ -13,6 +13,7 @@ mod Nest
 mod Openings
 mod Parents
 mod Phases
+mod Places
 mod Put
 mod Replaced
 mod Requests

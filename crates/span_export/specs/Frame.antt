@@ -94,17 +94,22 @@ lane_text width lane top =
 abbrev pub lanes_text : ℕ → BTreeMap ℕ ℕ → List ℕ
 lanes_text width tops = flat_map (λ e. lane_text width e.0 e.1) tops.entries
 
--- how a picture begins: with its size, this style and its paper
-abbrev pub head_in : List ℕ → ℕ → ℕ → List ℕ
-head_in look width height =
-    codes "<svg xmlns=\"http://www.w3.org/2000/svg\" width=\"" ++ decimal width
-    ++ codes "\" height=\"" ++ decimal height ++ codes "\">\n" ++ look
-    ++ codes "<rect class=\"paper\" width=\"" ++ decimal width ++ codes "\" height=\""
-    ++ decimal height ++ codes "\"/>\n"
+-- the tag that begins a picture of this size, which can be scaled
+abbrev pub tag_text : ℕ → ℕ → List ℕ
+tag_text width height =
+    codes "<svg xmlns=\"http://www.w3.org/2000/svg\" viewBox=\"0 0 " ++ decimal width
+    ++ codes " " ++ decimal height ++ codes "\" width=\"" ++ decimal width
+    ++ codes "\" height=\"" ++ decimal height ++ codes "\">\n"
+
+-- how a picture begins: with this tag, this style and its paper
+abbrev pub head_in : List ℕ → List ℕ → ℕ → ℕ → List ℕ
+head_in tag look width height =
+    tag ++ look ++ codes "<rect class=\"paper\" width=\"" ++ decimal width
+    ++ codes "\" height=\"" ++ decimal height ++ codes "\"/>\n"
 
 -- how a picture begins, with the style of all pictures
 abbrev pub head_text : ℕ → ℕ → List ℕ
-head_text width height = head_in style width height
+head_text width height = head_in (tag_text width height) style width height
 
 -- all that stands round boxes and marks: the size and the paper, what the colours mean, the axis
 -- and the lanes

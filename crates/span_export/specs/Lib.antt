@@ -13,4 +13,5 @@ pub mod Site
 pub mod Sums
 pub mod TraceParent
 pub mod Value
+pub mod When
 pub mod private

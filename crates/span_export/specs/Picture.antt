@@ -14,6 +14,7 @@ use Rattle.span_export.specs.Frame.{frame_text}
 use Rattle.span_export.specs.Scale.{scale_of, x_at}
 use Rattle.span_export.specs.Given.{given_shown}
 use Rattle.span_export.specs.Site.{Named, called, event_named, leveled, named_in}
+use Rattle.span_export.specs.When.{moment_text, stay_text}
 use Rattle.span_export.specs.declared.frame.Plan.{Plan}
 use Rattle.span_export.specs.declared.picture.Area.{Area}
 use Rattle.span_export.specs.declared.picture.Scale.{Scale}
@@ -104,7 +105,8 @@ title_of site = xml_text (called site ++ given_shown site.given)
 abbrev pub box_of : Scale → ℕ → Named → Stay → List ℕ
 box_of scale top site s =
     let area = area_of scale top s in
-    box_text (title_of site) (leveled site) area (label_text (xml_text (called site)) area)
+    box_text (title_of site ++ stay_text scale s) (leveled site) area
+    (label_text (xml_text (called site)) area)
 
 -- the boxes of stays
 abbrev pub boxes_text : (ℕ → Named) → Scale → (ℕ → ℕ) → List Stay → List ℕ
@@ -121,7 +123,8 @@ circle_text title level x y =
 abbrev pub mark_of : Table → Scale → ℕ → Point → Happening → List ℕ
 mark_of table scale top p (Sent callsite parent) =
     let site = event_named table p callsite in
-    circle_text (title_of site) (leveled site) (x_at scale p.time) (capped (top + 8))
+    circle_text (title_of site ++ moment_text scale p.time) (leveled site) (x_at scale p.time)
+    (capped (top + 8))
 mark_of table scale top p other = []
 
 -- the marks of points

@@ -1,7 +1,7 @@
 //! What stands round the boxes of a picture: the axis of time, the names of lanes, what the colours
 //! mean.
 ghost use Rattle.std.specs.Prelude.{◌≡◌, ◌++◌, IfOk, OnOk, string_bytes};
-ghost use Rattle.span_export.specs.Frame.{axis_text, frame_text, head_text, lane_text, lanes_text, time_line, tick_text, time_text};
+ghost use Rattle.span_export.specs.Frame.{axis_text, frame_text, head_in, head_text, lane_text, lanes_text, style, tag_text, time_line, tick_text, time_text};
 
 use crate::picture::Scale;
 use crate::stay::Stay;
@@ -119,10 +119,25 @@ pub(crate) fn frame(alloc: Global, scale: &Scale, plan: &Plan) -> Result<String,
 fn head(alloc: Global, width: u64, height: u64) -> Result<String, AllocError>
     ensures { IfOk result (λ text. string_bytes text ≡ head_text width height) }
 {
+    let tag = tag(alloc, width, height)?;
+    head_behind(alloc, tag.as_str(), width, height)
+}
+
+/// The tag that begins a picture of this size, which can be scaled.
+fn tag(alloc: Global, width: u64, height: u64) -> Result<String, AllocError>
+    ensures { IfOk result (λ text. string_bytes text ≡ tag_text width height) }
+{
     format!(in alloc;
-        "<svg xmlns=\"http://www.w3.org/2000/svg\" width=\"{width}\" height=\"{height}\">\n\
-         {STYLE}<rect class=\"paper\" width=\"{width}\" height=\"{height}\"/>\n"
+        "<svg xmlns=\"http://www.w3.org/2000/svg\" viewBox=\"0 0 {width} {height}\" \
+         width=\"{width}\" height=\"{height}\">\n"
     )
+}
+
+/// This tag, and behind it the style and the paper.
+fn head_behind(alloc: Global, tag: &str, width: u64, height: u64) -> Result<String, AllocError>
+    ensures { IfOk result (λ text. string_bytes text ≡ head_in tag.now style width height) }
+{
+    format!(in alloc; "{tag}{STYLE}<rect class=\"paper\" width=\"{width}\" height=\"{height}\"/>\n")
 }
 
 /// Lines at some times, with how long after the first point these are.

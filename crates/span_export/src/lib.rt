@@ -18,6 +18,7 @@ mod site;
 mod stay;
 mod trace_parent;
 mod value;
+mod when;
 
 pub use chrome::{chrome_lines, chrome_text};
 pub use folded::folded_text;

@@ -9,6 +9,7 @@ use crate::frame::{Plan, Tops, frame};
 use crate::given::{latest_given, write_given};
 use crate::site::{Name, Spans, find_site};
 use crate::stay::{Stay, stays};
+use crate::when::{write_moment, write_stay};
 use span_core::Lane;
 use span_times::{Happening, Point, Table};
 use std::alloc::{AllocError, Global};
@@ -30,9 +31,10 @@ pub(crate) struct Scale {
 /// space, is shown as U+FFFD.
 ///
 /// A box has the colour of its span's level, and its name where there is room for it. Its title has
-/// what the span was given as well, as `job{id=7}`, and that of an event's mark likewise. It takes
-/// time that grows as the square of how many boxes there are: it is meant for what a person can
-/// look at.
+/// what the span was given as well, as `job{id=7}`, and below that when the lane came in, after the
+/// first point, and how long it stayed, as `from 1.500 ms for 20.000 µs`. An event's mark has such
+/// a title too, with `at 1.500 ms`. It takes time that grows as the square of how many boxes there
+/// are: it is meant for what a person can look at.
 pub fn timeline_svg(
     alloc: Global,
     points: &[Point],
@@ -122,7 +124,8 @@ fn write_box(
     ensures { OnOk result (string_bytes text.new ≡ string_bytes text.old
         ++ box_of scale.now top (named_so name.entry) stay.now) }
 {
-    let title = title(alloc, name)?;
+    let mut title = title(alloc, name)?;
+    write_stay(&mut title, scale, stay)?;
     let shown = xml_text(alloc, name.name())?;
     let area = Area::of(scale, top, stay);
     let label = label(alloc, shown.as_str(), area)?;
@@ -247,7 +250,8 @@ fn write_point(
         site: find_site(table.sites, callsite),
         given: &given,
     };
-    let title = title(alloc, name)?;
+    let mut title = title(alloc, name)?;
+    write_moment(&mut title, scale, point.time)?;
     let x = scale.x(point.time);
     write_circle(text, title.as_str(), name.level(), x, top.saturating_add(8))
 }

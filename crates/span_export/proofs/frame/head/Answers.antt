@@ -1,13 +1,11 @@
-use Rattle.std.proofs.Common.{◌≡◌, ◌∙◌, ap, append_assoc, string_bytes}
+use Rattle.std.proofs.Common.{◌≡◌, ◌∙◌, ap}
 use Rattle.std.proofs.lemmas.Result.{IfOk-weaker}
-use Rattle.span_export.proofs.Style.{style_text}
-use Rattle.span_export.specs.Frame.{head_in}
-use Rattle.span_export.specs.declared.frame.TheConstants.{STYLE}
+use Rattle.span_export.specs.Frame.{head_in, style, tag_text}
 use Rattle.span_export.proofs.frame.head.Goals as goal
 
 pub returns : goal.returns
 returns c =
     let w = c.args.width in
     let h = c.args.height in
-    IfOk-weaker c.format.result
-    _ _ (λ s e. (let is : string_bytes s ≡ head_in STYLE.now w h = simp append_assoc e in is) ∙ ap (λ look. head_in look w h) style_text) c.format.ensures.ok
+    let tag : c.as_str.result.now ≡ tag_text w h = c.as_str.ensures.value ∙ c.in_ok-tag.ensures in
+    IfOk-weaker c.head_behind.result _ _ (λ s e. e ∙ ap (λ t. head_in t style w h) tag) c.head_behind.ensures
