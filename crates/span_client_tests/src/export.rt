@@ -5,7 +5,8 @@ use crate::fixture::in_use;
 use span_core::{Attributes, FieldSet, FieldValue, Id, Kind, Lane, Level, Metadata};
 use span_dispatch::Dispatch;
 use span_export::{
-    Trace, TraceParent, chrome_lines, chrome_text, folded_text, otlp_lines, timeline_svg,
+    PAGE_HEAD, PAGE_TAIL, Trace, TraceParent, chrome_lines, chrome_text, folded_text, otlp_lines,
+    timeline_page, timeline_svg,
 };
 use span_layers::Observer;
 use span_registry::{Registry, Subscriber};
@@ -565,6 +566,58 @@ fn a_title_tells_the_time(rt: HostRuntime) -> Result<(), Fail> {
         let svg = timeline_svg(alloc, &points, names(&sites), 400)?;
         assert!(rt; svg.as_str().contains(shown));
     }
+    Ok(())
+}
+
+#[test]
+fn a_page_is_a_picture_between_head_and_tail(rt: HostRuntime) -> Result<(), Fail> {
+    let alloc = rt.alloc();
+    let (sites, fields) = (sites(alloc)?, fields(alloc)?);
+    let table = Table {
+        sites: &sites,
+        fields: &fields,
+    };
+    let page = timeline_page(alloc, &points(), table, 900)?;
+    let page = page.as_str();
+    assert!(rt; page.starts_with("<!DOCTYPE html>\n<html lang=\"en\">\n<head>\n"));
+    assert!(rt; page.ends_with("</script>\n</body>\n</html>\n"));
+    let Some((before, from_picture)) = page.split_once(HEAD) else {
+        return Err(Fail::from("no picture"));
+    };
+    let Some((_, behind)) = from_picture.split_once(BOXES) else {
+        return Err(Fail::from("no boxes"));
+    };
+    assert!(rt; before == PAGE_HEAD && before.ends_with("<main>\n"));
+    assert!(rt; behind == PAGE_TAIL && behind.starts_with("</main>\n"));
+    Ok(())
+}
+
+/// What a page must not have but where it means it.
+const ENDING: &str = "</title></svg></main><script src=x>alert(1)</script>\"'`&lt;\0\u{1}";
+
+#[test]
+fn no_name_ends_the_picture_of_a_page(rt: HostRuntime) -> Result<(), Fail> {
+    let alloc = rt.alloc();
+    let sites = [site(alloc, 5, ENDING, "app", Level::INFO)?];
+    let span = Id::from_u64(1);
+    let points = [
+        at(0, 0, Happening::Opened(span, 5, None)),
+        at(0, 0, Happening::Entered(span)),
+        at(1, 0, Happening::Closed(span)),
+    ];
+    let page = timeline_page(alloc, &points, names(&sites), 2000)?;
+    let shown = "&lt;/title&gt;&lt;/svg&gt;&lt;/main&gt;&lt;script src=x&gt;alert(1)\
+&lt;/script&gt;\"'`&amp;lt;\u{FFFD}\u{FFFD}";
+    let Some((_, rest)) = page.as_str().split_once(shown) else {
+        return Err(Fail::from("no title"));
+    };
+    let Some((between, rest)) = rest.split_once(shown) else {
+        return Err(Fail::from("no name"));
+    };
+    assert!(rt; between.starts_with("\nfrom 0 ns for 1 ns</title><rect class=\"INFO\" x=\"72\""));
+    assert!(rt; rest.starts_with("</text></g>\n</svg>\n</main>\n"));
+    assert!(rt; !page.as_str().contains("alert(1)</script>"));
+    assert!(rt; !PAGE_HEAD.contains("src=") && !PAGE_HEAD.contains("url("));
     Ok(())
 }
 

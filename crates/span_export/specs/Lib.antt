@@ -7,6 +7,7 @@ pub mod Given
 pub mod Json
 pub mod Moment
 pub mod Otlp
+pub mod Page
 pub mod Picture
 pub mod Scale
 pub mod Site
