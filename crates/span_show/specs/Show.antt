@@ -9,6 +9,7 @@ use Rattle.span_export.specs.Chrome.{trace_of}
 use Rattle.span_export.specs.Folded.{folded}
 use Rattle.span_export.specs.Json.{AreCompact, Means}
 use Rattle.span_export.specs.Otlp.{AllMean, requests_of}
+use Rattle.span_export.specs.Page.{IsPage}
 use Rattle.span_export.specs.Picture.{IsPicture}
 use Rattle.span_export.specs.declared.otlp.Trace.{Trace}
 use Rattle.span_fmt.specs.Forms.{known_by_form, lines_give, tree_gives}
@@ -20,7 +21,7 @@ use Rattle.span_script.specs.Script.{AskFor, IsSpelled}
 use Rattle.span_script.specs.declared.line.Line.{Line}
 use Rattle.span_script.specs.declared.stack_name.StackName.{StackName}
 use Rattle.span_show.specs.Serve.{IsStreamed, IsToldOf, WithStream}
-use Rattle.span_show.specs.declared.format.Export.TheVariants.{Chrome, Folded, Otlp, Svg}
+use Rattle.span_show.specs.declared.format.Export.TheVariants.{Chrome, Folded, Otlp, Page, Svg}
 use Rattle.span_show.specs.declared.format.Export.{Export}
 use Rattle.span_show.specs.declared.format.Format.TheVariants.{Lines, Points, Tree}
 use Rattle.span_show.specs.declared.format.Format.{Format}
@@ -38,6 +39,7 @@ format_word (Points Chrome) = codes "chrome"
 format_word (Points Otlp) = codes "otlp"
 format_word (Points Folded) = codes "folded"
 format_word (Points Svg) = codes "svg"
+format_word (Points Page) = codes "page"
 
 -- a text as a line
 abbrev pub line_of : String Global → List ℕ
@@ -61,12 +63,13 @@ pub record IsOtlp (table : Table) (points : List Point) (text : List ℕ) : Type
   pub compact : AreCompact (map string_bytes lines)
   pub joined : text ≡ flat_map line_of lines
 
--- points as a text in a format; a picture is 960 wide
+-- points as a text in a format; a picture is 960 wide, and in a page 1,000,000
 abbrev pub IsExport : Export → Table → List Point → List ℕ → Type 0
 IsExport Chrome table points text = Means text (trace_of table points)
 IsExport Otlp table points text = IsOtlp table points text
 IsExport Folded table points text = text ≡ folded table points
 IsExport Svg table points text = IsPicture text table points 960
+IsExport Page table points text = IsPage text table points 1000000
 
 -- the points of these requests are exported so, with what they refer to
 pub record IsExportOf (s : SubscriberOf (WithTimeline RegistryState Counted)) (format : Export)

@@ -4,12 +4,15 @@ ghost use Rattle.span_show.specs.Show.{IsExport, line_of};
 
 use crate::fault::ShowFault;
 use crate::format::Export;
-use span_export::{Trace, chrome_text, folded_text, otlp_lines, timeline_svg};
+use span_export::{Trace, chrome_text, folded_text, otlp_lines, timeline_page, timeline_svg};
 use span_times::{Point, Table};
 use std::alloc::{AllocError, Global};
 
 /// How wide a picture is.
 const WIDTH: u32 = 960;
+
+/// How wide a page's picture is: so many times can be told apart.
+const PAGE_WIDTH: u32 = 1_000_000;
 
 /// These points as a text in this format.
 pub(crate) fn export(
@@ -25,6 +28,7 @@ pub(crate) fn export(
         Export::Otlp => otlp_text(alloc, points, table),
         Export::Folded => folded_text(alloc, points, table),
         Export::Svg => timeline_svg(alloc, points, table, WIDTH),
+        Export::Page => timeline_page(alloc, points, table, PAGE_WIDTH),
     }
 }
 

@@ -24,6 +24,8 @@ pub enum Export {
     Folded,
     /// A picture.
     Svg,
+    /// A picture in a page, to zoom and search.
+    Page,
 }
 
 impl Format {
@@ -39,6 +41,7 @@ impl Format {
             "otlp" => Some(Format::Points(Export::Otlp)),
             "folded" => Some(Format::Points(Export::Folded)),
             "svg" => Some(Format::Points(Export::Svg)),
+            "page" => Some(Format::Points(Export::Page)),
             _ => None,
         }
     }

@@ -1,5 +1,5 @@
-//! Shows what a script of spans does: as a tree of text, as a trace for other tools, or as a
-//! picture.
+//! Shows what a script of spans does: as a tree of text, as a trace for other tools, as a
+//! picture, or as a page.
 #![tactic(auto)]
 
 mod export;
