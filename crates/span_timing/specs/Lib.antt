@@ -1,0 +1,4 @@
+pub mod Histogram
+pub mod Life
+pub mod Row
+pub mod Timing
