@@ -32,4 +32,6 @@ mod script;
 #[cfg(test)]
 mod times;
 #[cfg(test)]
+mod timing;
+#[cfg(test)]
 mod trace_parent;
