@@ -1,0 +1,213 @@
+//! A queue of spans, of which batches are posted.
+ghost use Rattle.std.specs.Prelude.{◌≡◌, ◌+◌, ◌-◌, ◌^◌, ◌<◌, ◌≤◌, ◌==◌, ◌↔◌, if◌then◌else◌, [], ◌∷◌, ◌++◌, IfOk, IsTrue, IsFalse, length, take, vec_capacity, vec_len};
+ghost use Rattle.span_sender.specs.Answer.{fate_of, is_post};
+
+use crate::answer::{Answer, Fate};
+use crate::config::BatchConfig;
+use std::alloc::{AllocError, Global};
+
+/// What became of the spans so far, in numbers.
+#[derive(Clone, Copy, Debug)]
+pub struct Counts {
+    /// How many were pushed.
+    pub pushed: u64,
+    /// How many the collector has.
+    pub accepted: u64,
+    /// How many it refused, or didn't take in as many tries as were granted.
+    pub refused: u64,
+    /// How many found the queue full, or were given up.
+    pub dropped: u64,
+}
+
+/// What is to be done.
+#[derive(Clone, Copy, Debug)]
+pub enum Action {
+    /// Nothing, until a span is pushed.
+    Idle,
+    /// Nothing before this time.
+    Until(u64),
+    /// The batch is to be posted, and the answer to be told.
+    Post,
+}
+
+/// Spans that wait for a collector, each as the text of an export request. They go in batches, one
+/// at a time, and a batch is held until it was accepted, refused or given up.
+///
+/// It reads no clock: times are nanoseconds by a clock of the caller's.
+#[derive(Drop)]
+pub struct Batches {
+    config: BatchConfig,
+    held: Vec<String>,
+    sending: usize,
+    failed: u32,
+    due: u64,
+    counts: Counts,
+    pub ghost within: { sending ≤ vec_len held },
+    pub ghost room: { config.max_queue_size ≤ vec_capacity held },
+    pub ghost balanced: { counts.pushed
+        ≡ ((counts.accepted + counts.refused) + counts.dropped) + vec_len held },
+}
+
+impl Batches {
+    ghost use Rattle.span_sender.specs.Batches.{Ends, HasCount, HasRoom, HoldsSame, IsAsBefore, IsNew, Takes, WaitsAgain, action_at, batch_of, config_of, counts_of, due_at, failed_tries, held_by, posted_by, sending, with_accepted, with_dropped, with_pushed, with_refused};
+
+    /// A queue that holds nothing. It has room for all that it may hold: no other call allocates.
+    pub fn new(alloc: Global, config: BatchConfig) -> Result<Batches, AllocError>
+        ensures { IfOk result (IsNew config) }
+    {
+        Ok(Batches {
+            config,
+            held: Vec::with_capacity(alloc, config.max_queue_size)?,
+            sending: 0,
+            failed: 0,
+            due: 0,
+            counts: Counts {
+                pushed: 0,
+                accepted: 0,
+                refused: 0,
+                dropped: 0,
+            },
+        })
+    }
+
+    /// What became of the spans so far.
+    pub fn counts(&self) -> Counts
+        ensures value { result ≡ counts_of self.now }
+        ensures sum { result.pushed
+            ≡ ((result.accepted + result.refused) + result.dropped) + length (held_by self.now) }
+    {
+        self.counts
+    }
+
+    /// The spans of the request under way.
+    pub fn batch(&self) -> &[String]
+        ensures { result.now ≡ batch_of self.now }
+    {
+        &self.held[..self.sending]
+    }
+
+    /// How many spans are held.
+    pub fn len(&self) -> usize
+        ensures { result ≡ length (held_by self.now) }
+    {
+        self.held.len()
+    }
+
+    /// Whether no span is held.
+    pub fn is_empty(&self) -> bool
+        ensures { IsTrue result ↔ (held_by self.now ≡ []) }
+    {
+        self.held.is_empty()
+    }
+
+    /// Takes a span where there is room, and else drops and counts it; never waits. Says whether it
+    /// was taken. Where 2^64 - 1 spans were pushed before, it is neither taken nor counted.
+    pub fn push(&mut self, span: String) -> bool
+        ensures taken { IsTrue result ↔ HasRoom self.old }
+        ensures held { IsTrue result
+            → Takes self.old self.new span (with_pushed (counts_of self.old)) }
+        ensures dropped { IsFalse result → HasCount self.old
+            → HoldsSame self.old self.new (with_dropped (with_pushed (counts_of self.old)) 1) }
+        ensures uncounted { IsFalse result → ¬ (HasCount self.old)
+            → HoldsSame self.old self.new (counts_of self.old) }
+    {
+        if self.counts.pushed == u64::MAX {
+            return false;
+        }
+        self.counts.pushed += 1;
+        let has_room = self.held.len() < self.config.max_queue_size;
+        if has_room {
+            self.held.push_reserved(span);
+        } else {
+            self.counts.dropped += 1;
+        }
+        has_room
+    }
+
+    /// What is to be done at a time. At `Post` a request is under way: post `batch`, and tell what
+    /// came by `answered`.
+    pub fn next(&mut self, now: u64) -> Action
+        ensures action { result ≡ action_at self.old now }
+        ensures held { HoldsSame self.old self.new (counts_of self.old) }
+        ensures post { IsTrue (is_post result) → sending self.new ≡ posted_by self.old }
+        ensures other { IsFalse (is_post result) → sending self.new ≡ sending self.old }
+    {
+        let held = self.held.len();
+        let size = self.config.max_export_batch_size;
+        if held == 0 {
+            return Action::Idle;
+        }
+        let is_full = self.sending == 0 && size <= held;
+        if self.due > now && !is_full {
+            return Action::Until(self.due);
+        }
+        if self.sending == 0 {
+            self.sending = size.min(held);
+        }
+        Action::Post
+    }
+
+    /// Takes what came of a request: it is posted again later, or its spans are counted and no
+    /// longer held. Says which.
+    pub fn answered(&mut self, answer: Answer, now: u64) -> Fate
+        ensures fate { result ≡ fate_of (config_of self.old).retry (failed_tries self.old) answer }
+        ensures kept { result ≡ Fate.Kept → WaitsAgain self.old self.new answer now }
+        ensures accepted { result ≡ Fate.Accepted → Ends self.old self.new
+            (with_accepted (counts_of self.old) (length (batch_of self.old))) now }
+        ensures refused { result ≡ Fate.Refused → Ends self.old self.new
+            (with_refused (counts_of self.old) (length (batch_of self.old))) now }
+    {
+        let retry = self.config.retry;
+        let fate = answer.fate(retry, self.failed);
+        match fate {
+            Fate::Accepted => self.end(now, true),
+            Fate::Refused => self.end(now, false),
+            Fate::Kept => {
+                self.due = now.saturating_add(retry.wait_after(self.failed, answer));
+                self.failed += 1;
+            }
+        }
+        fate
+    }
+
+    /// Counts the spans of the request under way, and lets them go.
+    fn end(&mut self, now: u64, is_accepted: bool)
+        ensures accepted { IsTrue is_accepted → Ends self.old self.new
+            (with_accepted (counts_of self.old) (length (batch_of self.old))) now }
+        ensures refused { IsFalse is_accepted → Ends self.old self.new
+            (with_refused (counts_of self.old) (length (batch_of self.old))) now }
+    {
+        self.held.drain(..self.sending);
+        if is_accepted {
+            self.counts.accepted += self.sending as u64;
+        } else {
+            self.counts.refused += self.sending as u64;
+        }
+        self.sending = 0;
+        self.failed = 0;
+        self.due = now.saturating_add(self.config.scheduled_delay);
+    }
+
+    /// Has what is held go at once, also in a batch that isn't full; but a request that failed
+    /// still waits.
+    pub fn flush(&mut self)
+        ensures due { due_at self.new ≡ (if sending self.old == 0 then 0 else due_at self.old) }
+        ensures same { IsAsBefore self.old self.new }
+    {
+        if self.sending == 0 {
+            self.due = 0;
+        }
+    }
+
+    /// Gives up all that is held, and counts it as dropped.
+    pub fn give_up(&mut self)
+        ensures held { held_by self.new ≡ [] }
+        ensures counts { counts_of self.new
+            ≡ with_dropped (counts_of self.old) (length (held_by self.old)) }
+    {
+        self.counts.dropped += self.held.len() as u64;
+        self.held.clear();
+        self.sending = 0;
+        self.failed = 0;
+    }
+}

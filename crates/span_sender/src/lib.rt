@@ -1,0 +1,14 @@
+//! A sender of closed spans to a collector of OpenTelemetry: a queue with a limit, batches that are
+//! posted until they are accepted or counted, and a thread that does so.
+//!
+//! Stands for the `BatchSpanProcessor` of `opentelemetry_sdk` and the HTTP exporter of
+//! `opentelemetry-otlp`. Who calls it hands in the net.
+#![tactic(auto)]
+
+mod answer;
+mod batches;
+mod config;
+
+pub use answer::{Answer, Fate};
+pub use batches::{Action, Batches, Counts};
+pub use config::{BatchConfig, RetryPolicy};
