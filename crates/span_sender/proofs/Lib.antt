@@ -1,1 +1,4 @@
 pub mod Doubled
+pub mod Listed
+pub mod Runs
+pub mod Sending

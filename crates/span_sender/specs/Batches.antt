@@ -3,6 +3,8 @@ use Rattle.std.specs.Prelude.{◌≡◌, ℕ, ◌+◌, ◌-◌, ◌^◌, ◌<◌
 use Rattle.std.specs.declared.alloc.Global.{Global}
 use Rattle.span_sender.specs.Answer.{capped, wait_after}
 use Rattle.span_sender.specs.declared.answer.Answer.{Answer}
+use Rattle.span_sender.specs.declared.answer.Fate.TheVariants.{Accepted, Kept, Refused}
+use Rattle.span_sender.specs.declared.answer.Fate.{Fate}
 use Rattle.span_sender.specs.declared.batches.Action.TheVariants.{Idle, Post, Until}
 use Rattle.span_sender.specs.declared.batches.Action.{Action}
 use Rattle.span_sender.specs.declared.batches.Batches.{Batches}
@@ -128,3 +130,18 @@ with_dropped counts n = record counts { dropped = counts.dropped + n }
 -- one more was pushed
 abbrev pub with_pushed : Counts → Counts
 with_pushed counts = record counts { pushed = counts.pushed + 1 }
+
+-- what becomes of a batch by an answer
+abbrev pub Answered : Fate → Batches → Batches → Answer → ℕ → Type 0
+Answered Accepted old new answer now =
+    Ends old new (with_accepted (counts_of old) (length (batch_of old))) now
+Answered Refused old new answer now =
+    Ends old new (with_refused (counts_of old) (length (batch_of old))) now
+Answered Kept old new answer now = WaitsAgain old new answer now
+
+-- all that was held is dropped and counted
+pub record GivesUp (old new : Batches) : Type 0 where
+  pub config : config_of new ≡ config_of old
+  pub held : held_by new ≡ []
+  pub batch : sending new ≡ 0
+  pub counts : counts_of new ≡ with_dropped (counts_of old) (length (held_by old))

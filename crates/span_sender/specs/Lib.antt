@@ -1,2 +1,5 @@
 pub mod Answer
 pub mod Batches
+pub mod Body
+pub mod Post
+pub mod Run

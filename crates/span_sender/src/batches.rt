@@ -49,7 +49,7 @@ pub struct Batches {
 }
 
 impl Batches {
-    ghost use Rattle.span_sender.specs.Batches.{Ends, HasCount, HasRoom, HoldsSame, IsAsBefore, IsNew, Takes, WaitsAgain, action_at, batch_of, config_of, counts_of, due_at, failed_tries, held_by, posted_by, sending, with_accepted, with_dropped, with_pushed, with_refused};
+    ghost use Rattle.span_sender.specs.Batches.{Answered, Ends, GivesUp, HasCount, HasRoom, HoldsSame, IsAsBefore, IsNew, Takes, action_at, batch_of, config_of, counts_of, due_at, failed_tries, held_by, posted_by, sending, with_accepted, with_dropped, with_pushed, with_refused};
 
     /// A queue that holds nothing. It has room for all that it may hold: no other call allocates.
     pub fn new(alloc: Global, config: BatchConfig) -> Result<Batches, AllocError>
@@ -84,6 +84,11 @@ impl Batches {
         ensures { result.now ≡ batch_of self.now }
     {
         &self.held[..self.sending]
+    }
+
+    /// How long the queue waits after a first try that failed.
+    pub(crate) fn pause(&self) -> u64 {
+        self.config.retry.backoff(0)
     }
 
     /// How many spans are held.
@@ -151,23 +156,24 @@ impl Batches {
     /// longer held. Says which.
     pub fn answered(&mut self, answer: Answer, now: u64) -> Fate
         ensures fate { result ≡ fate_of (config_of self.old).retry (failed_tries self.old) answer }
-        ensures kept { result ≡ Fate.Kept → WaitsAgain self.old self.new answer now }
-        ensures accepted { result ≡ Fate.Accepted → Ends self.old self.new
-            (with_accepted (counts_of self.old) (length (batch_of self.old))) now }
-        ensures refused { result ≡ Fate.Refused → Ends self.old self.new
-            (with_refused (counts_of self.old) (length (batch_of self.old))) now }
+        ensures effect { Answered result self.old self.new answer now }
     {
         let retry = self.config.retry;
-        let fate = answer.fate(retry, self.failed);
-        match fate {
-            Fate::Accepted => self.end(now, true),
-            Fate::Refused => self.end(now, false),
+        match answer.fate(retry, self.failed) {
+            Fate::Accepted => {
+                self.end(now, true);
+                Fate::Accepted
+            }
+            Fate::Refused => {
+                self.end(now, false);
+                Fate::Refused
+            }
             Fate::Kept => {
                 self.due = now.saturating_add(retry.wait_after(self.failed, answer));
                 self.failed += 1;
+                Fate::Kept
             }
         }
-        fate
     }
 
     /// Counts the spans of the request under way, and lets them go.
@@ -201,9 +207,7 @@ impl Batches {
 
     /// Gives up all that is held, and counts it as dropped.
     pub fn give_up(&mut self)
-        ensures held { held_by self.new ≡ [] }
-        ensures counts { counts_of self.new
-            ≡ with_dropped (counts_of self.old) (length (held_by self.old)) }
+        ensures { GivesUp self.old self.new }
     {
         self.counts.dropped += self.held.len() as u64;
         self.held.clear();

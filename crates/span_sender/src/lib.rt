@@ -7,8 +7,15 @@
 
 mod answer;
 mod batches;
+mod body;
 mod config;
+pub mod laws;
+mod poster;
+mod send;
 
 pub use answer::{Answer, Fate};
 pub use batches::{Action, Batches, Counts};
+pub use body::export_body;
 pub use config::{BatchConfig, RetryPolicy};
+pub use poster::Poster;
+pub use send::{send_all, serve};

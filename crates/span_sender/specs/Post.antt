@@ -1,0 +1,10 @@
+-- The requests that a poster was given.
+use Rattle.std.specs.Prelude.{◌≡◌, ℕ, List, ◌++◌, Option, None, Some, ⊤}
+use Rattle.span_sender.specs.declared.answer.Answer.{Answer}
+
+-- what is known of requests and their answers grows by these
+abbrev pub Grows : Option (List (List ℕ × Answer)) → Option (List (List ℕ × Answer))
+    → List (List ℕ × Answer) → Type 0
+Grows None new more = ⊤
+Grows (Some xs) None more = ⊥
+Grows (Some xs) (Some ys) more = ys ≡ xs ++ more
