@@ -1,5 +1,5 @@
 -- What a queue of spans shows, and what is to be done with it.
-use Rattle.std.specs.Prelude.{◌≡◌, ℕ, ◌+◌, ◌-◌, ◌^◌, ◌<◌, ◌==◌, ◌&&◌, ◌||◌, nat_le, min, Bool, if◌then◌else◌, List, [], ◌∷◌, ◌++◌, String, length, take}
+use Rattle.std.specs.Prelude.{◌≡◌, ℕ, ◌+◌, ◌<◌, ◌==◌, ◌&&◌, ◌||◌, nat_le, min, Bool, if◌then◌else◌, List, [], ◌∷◌, ◌++◌, String, length, take}
 use Rattle.std.specs.declared.alloc.Global.{Global}
 use Rattle.span_sender.specs.Answer.{capped, wait_after}
 use Rattle.span_sender.specs.declared.answer.Answer.{Answer}
@@ -39,13 +39,9 @@ due_at b = b.due
 abbrev pub counts_of : Batches → Counts
 counts_of b = b.counts
 
--- one span more can be counted
-abbrev pub HasCount : Batches → Type 0
-HasCount b = (counts_of b).pushed < 2 ^ 64 - 1
-
--- a queue has room for a span, and can count it
+-- a queue has room for a span
 abbrev pub HasRoom : Batches → Type 0
-HasRoom b = (length (held_by b) < (config_of b).max_queue_size) × HasCount b
+HasRoom b = length (held_by b) < (config_of b).max_queue_size
 
 -- a queue to which nothing was pushed
 pub record IsNew (config : BatchConfig) (b : Batches) : Type 0 where
@@ -117,19 +113,19 @@ pub record Ends (old new : Batches) (counts : Counts) (now : ℕ) : Type 0 where
 
 -- so many more were accepted
 abbrev pub with_accepted : Counts → ℕ → Counts
-with_accepted counts n = record counts { accepted = counts.accepted + n }
+with_accepted counts n = record counts { accepted = capped (counts.accepted + n) }
 
 -- so many more were refused
 abbrev pub with_refused : Counts → ℕ → Counts
-with_refused counts n = record counts { refused = counts.refused + n }
+with_refused counts n = record counts { refused = capped (counts.refused + n) }
 
 -- so many more were dropped
 abbrev pub with_dropped : Counts → ℕ → Counts
-with_dropped counts n = record counts { dropped = counts.dropped + n }
+with_dropped counts n = record counts { dropped = capped (counts.dropped + n) }
 
 -- one more was pushed
 abbrev pub with_pushed : Counts → Counts
-with_pushed counts = record counts { pushed = counts.pushed + 1 }
+with_pushed counts = record counts { pushed = capped (counts.pushed + 1) }
 
 -- what becomes of a batch by an answer
 abbrev pub Answered : Fate → Batches → Batches → Answer → ℕ → Type 0

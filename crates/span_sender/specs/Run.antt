@@ -1,13 +1,14 @@
 -- What a program may do with a queue of spans, and what came of the spans.
-use Rattle.std.specs.Prelude.{◌≡◌, ℕ, ◌+◌, List, [], ◌∷◌, ◌++◌, Option, String, flat_map, length, sum_by}
+use Rattle.std.specs.Prelude.{◌≡◌, ℕ, List, [], ◌∷◌, ◌++◌, Option, String, flat_map, length, sum_by}
 use Rattle.std.specs.declared.alloc.Global.{Global}
-use Rattle.span_sender.specs.Answer.{fate_of}
-use Rattle.span_sender.specs.Batches.{Answered, GivesUp, HoldsSame, Takes, batch_of, config_of, counts_of, failed_tries, held_by, with_dropped, with_pushed}
+use Rattle.span_sender.specs.Answer.{capped, fate_of}
+use Rattle.span_sender.specs.Batches.{Answered, GivesUp, HoldsSame, Takes, action_at, batch_of, config_of, counts_of, failed_tries, held_by, posted_by, sending, with_dropped, with_pushed}
 use Rattle.span_sender.specs.Body.{body_of}
 use Rattle.span_sender.specs.Post.{Grows}
 use Rattle.span_sender.specs.declared.answer.Answer.{Answer}
 use Rattle.span_sender.specs.declared.answer.Fate.TheVariants.{Accepted, Refused}
 use Rattle.span_sender.specs.declared.answer.Fate.{Fate}
+use Rattle.span_sender.specs.declared.batches.Action.TheVariants.{Post}
 use Rattle.span_sender.specs.declared.batches.Batches.{Batches}
 
 -- what a call did
@@ -83,17 +84,14 @@ abbrev pub posts : Event → List (List ℕ × Answer)
 posts (Tried batch answer fate now) = (body_of batch, answer) ∷ []
 posts other = []
 
--- no span is lost: what was held and what was taken is, in order, what was let go and what is
--- held; what was let go was accepted, refused or dropped, and is counted as that
-pub record LosesNone (old : Batches) (events : List Event) (new : Batches) : Type 0 where
-  pub order : held_by old ++ flat_map took events ≡ flat_map let_go events ++ held_by new
-  pub accepted : (counts_of new).accepted
-      ≡ (counts_of old).accepted + length (flat_map accepted_by events)
-  pub refused : (counts_of new).refused
-      ≡ (counts_of old).refused + length (flat_map refused_by events)
-  pub dropped : (counts_of new).dropped
-      ≡ (counts_of old).dropped + sum_by dropped_by events
-  pub pushed : (counts_of new).pushed ≡ (counts_of old).pushed + sum_by pushed_by events
+-- no span is lost: what was taken is, in order, what was let go and what is held; what was let go
+-- was accepted, refused or dropped, and is counted as that
+pub record LosesNone (events : List Event) (new : Batches) : Type 0 where
+  pub order : flat_map took events ≡ flat_map let_go events ++ held_by new
+  pub accepted : (counts_of new).accepted ≡ capped (length (flat_map accepted_by events))
+  pub refused : (counts_of new).refused ≡ capped (length (flat_map refused_by events))
+  pub dropped : (counts_of new).dropped ≡ capped (sum_by dropped_by events)
+  pub pushed : (counts_of new).pushed ≡ capped (sum_by pushed_by events)
 
 -- calls had a queue go from old to new with these spans taken, and just what they tried was posted
 pub record Sends (old new : Batches) (before after : Option (List (List ℕ × Answer)))
@@ -111,3 +109,12 @@ pub record TriesOnce (old new : Batches) (before after : Option (List (List ℕ 
   pub now : ℕ
   pub posted : Grows before after ((body_of (batch_of old), answer) ∷ [])
   pub told : Step old (Tried (batch_of old) answer fate now) new
+
+-- the queue began a batch that was due, or went on with one; it was posted, and what came was told
+pub record PostsNext (old new : Batches) (time : ℕ) (before after : Option (List (List ℕ × Answer)))
+    : Type 0 where
+  pub mid : Batches
+  pub due : action_at old time ≡ Post
+  pub begun : HoldsSame old mid (counts_of old)
+  pub batch : sending mid ≡ posted_by old
+  pub tries : TriesOnce mid new before after

@@ -6,7 +6,7 @@ use crate::answer::{Answer, Fate};
 use crate::config::BatchConfig;
 use std::alloc::{AllocError, Global};
 
-/// What became of the spans so far, in numbers.
+/// What became of the spans so far, in numbers that stop at the largest.
 #[derive(Clone, Copy, Debug)]
 pub struct Counts {
     /// How many were pushed.
@@ -44,12 +44,12 @@ pub struct Batches {
     counts: Counts,
     pub ghost within: { sending ≤ vec_len held },
     pub ghost room: { config.max_queue_size ≤ vec_capacity held },
-    pub ghost balanced: { counts.pushed
-        ≡ ((counts.accepted + counts.refused) + counts.dropped) + vec_len held },
+    pub ghost balanced: { counts.pushed < 2 ^ 64 - 1
+        → counts.pushed ≡ ((counts.accepted + counts.refused) + counts.dropped) + vec_len held },
 }
 
 impl Batches {
-    ghost use Rattle.span_sender.specs.Batches.{Answered, Ends, GivesUp, HasCount, HasRoom, HoldsSame, IsAsBefore, IsNew, Takes, action_at, batch_of, config_of, counts_of, due_at, failed_tries, held_by, posted_by, sending, with_accepted, with_dropped, with_pushed, with_refused};
+    ghost use Rattle.span_sender.specs.Batches.{Answered, Ends, GivesUp, HasRoom, HoldsSame, IsAsBefore, IsNew, Takes, action_at, batch_of, config_of, counts_of, due_at, failed_tries, held_by, posted_by, sending, with_accepted, with_dropped, with_pushed, with_refused};
 
     /// A queue that holds nothing. It has room for all that it may hold: no other call allocates.
     pub fn new(alloc: Global, config: BatchConfig) -> Result<Batches, AllocError>
@@ -73,7 +73,7 @@ impl Batches {
     /// What became of the spans so far.
     pub fn counts(&self) -> Counts
         ensures value { result ≡ counts_of self.now }
-        ensures sum { result.pushed
+        ensures sum { result.pushed < 2 ^ 64 - 1 → result.pushed
             ≡ ((result.accepted + result.refused) + result.dropped) + length (held_by self.now) }
     {
         self.counts
@@ -106,27 +106,29 @@ impl Batches {
     }
 
     /// Takes a span where there is room, and else drops and counts it; never waits. Says whether it
-    /// was taken. Where 2^64 - 1 spans were pushed before, it is neither taken nor counted.
+    /// was taken.
     pub fn push(&mut self, span: String) -> bool
-        ensures taken { IsTrue result ↔ HasRoom self.old }
-        ensures held { IsTrue result
+        ensures room { IsTrue result ↔ HasRoom self.old }
+        ensures taken { IsTrue result
             → Takes self.old self.new span (with_pushed (counts_of self.old)) }
-        ensures dropped { IsFalse result → HasCount self.old
+        ensures dropped { IsFalse result
             → HoldsSame self.old self.new (with_dropped (with_pushed (counts_of self.old)) 1) }
-        ensures uncounted { IsFalse result → ¬ (HasCount self.old)
-            → HoldsSame self.old self.new (counts_of self.old) }
     {
-        if self.counts.pushed == u64::MAX {
-            return false;
-        }
-        self.counts.pushed += 1;
-        let has_room = self.held.len() < self.config.max_queue_size;
+        let has_room = self.has_room();
+        self.counts.pushed = self.counts.pushed.saturating_add(1);
         if has_room {
             self.held.push_reserved(span);
         } else {
-            self.counts.dropped += 1;
+            self.counts.dropped = self.counts.dropped.saturating_add(1);
         }
         has_room
+    }
+
+    /// Whether there is room for a span.
+    pub fn has_room(&self) -> bool
+        ensures { IsTrue result ↔ HasRoom self.now }
+    {
+        self.held.len() < self.config.max_queue_size
     }
 
     /// What is to be done at a time. At `Post` a request is under way: post `batch`, and tell what
@@ -185,9 +187,9 @@ impl Batches {
     {
         self.held.drain(..self.sending);
         if is_accepted {
-            self.counts.accepted += self.sending as u64;
+            self.counts.accepted = self.counts.accepted.saturating_add(self.sending as u64);
         } else {
-            self.counts.refused += self.sending as u64;
+            self.counts.refused = self.counts.refused.saturating_add(self.sending as u64);
         }
         self.sending = 0;
         self.failed = 0;
@@ -209,7 +211,7 @@ impl Batches {
     pub fn give_up(&mut self)
         ensures { GivesUp self.old self.new }
     {
-        self.counts.dropped += self.held.len() as u64;
+        self.counts.dropped = self.counts.dropped.saturating_add(self.held.len() as u64);
         self.held.clear();
         self.sending = 0;
         self.failed = 0;

@@ -1,6 +1,7 @@
 //! Posts what a queue holds.
 ghost use Rattle.std.specs.Prelude.{◌≡◌, [], IsFalse, IsTrue};
-ghost use Rattle.span_sender.specs.Run.{Sends, TriesOnce};
+ghost use Rattle.span_sender.specs.Run.{PostsNext, SameSpans, Sends, TriesOnce};
+ghost use Rattle.span_sender.specs.Answer.{is_post};
 ghost use Rattle.span_sender.specs.Batches.{held_by};
 
 use crate::batches::{Action, Batches};
@@ -54,6 +55,10 @@ pub fn serve<P: Poster, C: Clock>(
     now: u64,
 ) -> Action
     ensures sends { Sends batches.old batches.new (P.posted poster.old) (P.posted poster.new) [] }
+    ensures posts { IsTrue (is_post result) → PostsNext batches.old batches.new now
+        (P.posted poster.old) (P.posted poster.new) }
+    ensures none { IsFalse (is_post result)
+        → SameSpans batches.old batches.new × (poster.new ≡ poster.old) }
     ensures idle { result ≡ Action.Idle → held_by batches.new ≡ [] }
 {
     match batches.next(now) {

@@ -1,4 +1,4 @@
-use Rattle.std.proofs.Common.{[], refl, Option, List, ℕ}
+use Rattle.std.proofs.Common.{sym, [], refl, Option, List, ℕ}
 use Rattle.span_sender.specs.Run.{Looked, Sends}
 use Rattle.span_sender.specs.declared.answer.Answer.{Answer}
 use Rattle.span_sender.specs.declared.batches.Batches.{Batches}
@@ -25,3 +25,13 @@ returns-in-Until-clause-sends g c = asked _ _ (g.P.Poster.posted c.args.poster.n
 
 pub returns-in-Idle-clause-sends : goal.returns-in-Idle-clause-sends
 returns-in-Idle-clause-sends g c = asked _ _ (g.P.Poster.posted c.args.poster.now) c.next.ensures.held
+
+pub returns-then-try_batch-clause-posts : goal.returns-then-try_batch-clause-posts
+returns-then-try_batch-clause-posts g c =
+    λ _. record {
+      mid = c.next.new.self;
+      due = sym c.in-Post.ensures.action;
+      begun = c.next.ensures.held;
+      batch = c.in-Post.ensures.post refl;
+      tries = c.try_batch.ensures.posted c.if-try_batch.true;
+    }
