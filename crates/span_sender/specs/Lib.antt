@@ -1,5 +1,9 @@
 pub mod Answer
 pub mod Batches
 pub mod Body
+pub mod Config
+pub mod Guard
 pub mod Post
 pub mod Run
+pub mod Sender
+pub mod Worker

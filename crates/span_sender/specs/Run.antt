@@ -1,10 +1,10 @@
 -- What a program may do with a queue of spans, and what came of the spans.
-use Rattle.std.specs.Prelude.{◌≡◌, ℕ, List, [], ◌∷◌, ◌++◌, Option, String, flat_map, length, sum_by}
+use Rattle.std.specs.Prelude.{◌≡◌, ℕ, List, [], ◌∷◌, ◌++◌, String, flat_map, length, sum_by}
 use Rattle.std.specs.declared.alloc.Global.{Global}
 use Rattle.span_sender.specs.Answer.{capped, fate_of}
 use Rattle.span_sender.specs.Batches.{Answered, GivesUp, HoldsSame, Takes, action_at, batch_of, config_of, counts_of, failed_tries, held_by, posted_by, sending, with_dropped, with_pushed}
 use Rattle.span_sender.specs.Body.{body_of}
-use Rattle.span_sender.specs.Post.{Grows}
+use Rattle.span_sender.specs.Post.{Grows, Posts}
 use Rattle.span_sender.specs.declared.answer.Answer.{Answer}
 use Rattle.span_sender.specs.declared.answer.Fate.TheVariants.{Accepted, Refused}
 use Rattle.span_sender.specs.declared.answer.Fate.{Fate}
@@ -94,7 +94,7 @@ pub record LosesNone (events : List Event) (new : Batches) : Type 0 where
   pub pushed : (counts_of new).pushed ≡ capped (sum_by pushed_by events)
 
 -- calls had a queue go from old to new with these spans taken, and just what they tried was posted
-pub record Sends (old new : Batches) (before after : Option (List (List ℕ × Answer)))
+pub record Sends (old new : Batches) (before after : Posts)
     (spans : List (String Global)) : Type 0 where
   pub events : List Event
   pub run : Run old events new
@@ -102,7 +102,7 @@ pub record Sends (old new : Batches) (before after : Option (List (List ℕ × A
   pub posted : Grows before after (flat_map posts events)
 
 -- the batch under way was posted, and what came was told to the queue; nothing else happened
-pub record TriesOnce (old new : Batches) (before after : Option (List (List ℕ × Answer)))
+pub record TriesOnce (old new : Batches) (before after : Posts)
     : Type 0 where
   pub answer : Answer
   pub fate : Fate
@@ -111,7 +111,7 @@ pub record TriesOnce (old new : Batches) (before after : Option (List (List ℕ 
   pub told : Step old (Tried (batch_of old) answer fate now) new
 
 -- the queue began a batch that was due, or went on with one; it was posted, and what came was told
-pub record PostsNext (old new : Batches) (time : ℕ) (before after : Option (List (List ℕ × Answer)))
+pub record PostsNext (old new : Batches) (time : ℕ) (before after : Posts)
     : Type 0 where
   pub mid : Batches
   pub due : action_at old time ≡ Post

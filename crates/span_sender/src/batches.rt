@@ -49,6 +49,8 @@ pub struct Batches {
 }
 
 impl Batches {
+    ghost use Rattle.span_sender.specs.Post.{Posts};
+    ghost use Rattle.span_sender.specs.Run.{Sends};
     ghost use Rattle.span_sender.specs.Batches.{Answered, Ends, GivesUp, HasRoom, HoldsSame, IsAsBefore, IsNew, Takes, action_at, batch_of, config_of, counts_of, due_at, failed_tries, held_by, posted_by, sending, with_accepted, with_dropped, with_pushed, with_refused};
 
     /// A queue that holds nothing. It has room for all that it may hold: no other call allocates.
@@ -215,5 +217,15 @@ impl Batches {
         self.held.clear();
         self.sending = 0;
         self.failed = 0;
+    }
+
+    /// Takes a span, and gives it up.
+    pub(crate) fn give_up_one(&mut self, span: String)
+        requires { held_by self.old ≡ [] }
+        ensures held { held_by self.new ≡ [] }
+        ensures sends { (known : Posts) → Sends self.old self.new known known (span ∷ []) }
+    {
+        self.push(span);
+        self.give_up();
     }
 }

@@ -17,7 +17,8 @@ pub struct BatchConfig {
     pub scheduled_delay: u64,
     /// When a request is posted again.
     pub retry: RetryPolicy,
-    pub ghost room: { 0 < max_export_batch_size },
+    pub ghost room: { 0 < max_queue_size },
+    pub ghost batch: { 0 < max_export_batch_size },
 }
 
 /// When a request is posted again, in nanoseconds.
@@ -32,6 +33,8 @@ pub struct RetryPolicy {
 }
 
 impl BatchConfig {
+    ghost use Rattle.span_sender.specs.Config.{one_batch};
+
     /// What OpenTelemetry's SDKs begin with.
     pub const DEFAULT: BatchConfig = BatchConfig {
         max_queue_size: 2048,
@@ -39,6 +42,18 @@ impl BatchConfig {
         scheduled_delay: 5_000_000_000,
         retry: RetryPolicy::DEFAULT,
     };
+
+    /// The same for a queue that holds one batch at most.
+    pub(crate) fn one_batch(self) -> BatchConfig
+        ensures { result ≡ one_batch self }
+    {
+        BatchConfig {
+            max_queue_size: self.max_export_batch_size,
+            max_export_batch_size: self.max_export_batch_size,
+            scheduled_delay: self.scheduled_delay,
+            retry: self.retry,
+        }
+    }
 }
 
 impl RetryPolicy {
