@@ -3,6 +3,7 @@ pub mod Batches
 pub mod Body
 pub mod Config
 pub mod Guard
+pub mod Http
 pub mod Post
 pub mod Run
 pub mod Sender
