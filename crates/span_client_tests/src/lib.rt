@@ -30,6 +30,8 @@ mod run;
 #[cfg(test)]
 mod script;
 #[cfg(test)]
+mod sender;
+#[cfg(test)]
 mod times;
 #[cfg(test)]
 mod timing;

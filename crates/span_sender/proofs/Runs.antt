@@ -1,9 +1,11 @@
 -- What holds of runs of calls.
-use Rattle.std.proofs.Common.{◌<◌, ◌^◌, ℕ, sum_by, ◌≡◌, ◌+◌, List, [], ◌∷◌, ◌++◌, flat_map, length, refl, ap, sym, ◌∙◌, arith, append_assoc, append-nil, length-append}
+use Rattle.std.proofs.Common.{◌<◌, ◌^◌, ℕ, sum_by, ◌≡◌, ◌+◌, List, [], ◌∷◌, ◌++◌, flat_map, length, refl, ap, sym, ◌∙◌, arith, append_assoc, append-nil}
+use Rattle.std.proofs.Common.{length-append}
 use Rattle.std.proofs.lemmas.List.Sums.{sum_by-cons}
 use Rattle.span_sender.specs.Answer.{capped}
 use Rattle.span_sender.specs.Batches.{IsNew, counts_of, held_by}
-use Rattle.span_sender.specs.Run.{Event, Took, Missed, Looked, Tried, GaveUp, LosesNone, Run, Step, accepted_by, dropped_by, let_go, pushed_by, refused_by, took}
+use Rattle.span_sender.specs.Run.{Event, Took, Missed, Looked, Tried, GaveUp, LosesNone, Run, Step, accepted_by, dropped_by, let_go, pushed_by, refused_by}
+use Rattle.span_sender.specs.Run.{took}
 use Rattle.span_sender.specs.declared.answer.Fate.TheVariants.{Accepted, Kept, Refused}
 use Rattle.span_sender.specs.declared.batches.Counts.{Counts}
 use Rattle.span_sender.specs.declared.batches.Batches.{Batches}

@@ -12,7 +12,8 @@ loop-preserved g c =
       left = popped_left _ _ _ _ _ popped.1 c.loop.invariant.left;
       all = popped_all _ _ _ _ _ _ popped.0 popped.1 c.loop.invariant.all;
       empty = c.give_up_one.ensures.held;
-      kept = λ first h. goes_on g.P.Poster.posted first _ _ _ (c.loop.invariant.kept first h) c.pop_known-span.ensures.ring popped.0 (c.give_up_one.ensures.sends _);
+      kept = λ first h.
+          goes_on g.P.Poster.posted first _ _ _ (c.loop.invariant.kept first h) c.pop_known-span.ensures.ring popped.0 (c.give_up_one.ensures.sends _);
     }
 
 pub returns-clause-kept : goal.returns-clause-kept
