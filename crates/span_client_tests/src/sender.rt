@@ -210,7 +210,14 @@ fn no_span_of_ten_thousand_is_lost(rt: HostRuntime) -> Result<(), Fail> {
     let clock = Sleeper {
         now: Arc::new(alloc, AtomicU64::new(0))?,
     };
-    send_all(&rt, alloc, &mut batches, &mut collector, &clock, 1_000_000_000);
+    send_all(
+        &rt,
+        alloc,
+        &mut batches,
+        &mut collector,
+        &clock,
+        1_000_000_000,
+    );
     let counts = batches.counts();
     assert!(rt; counts.pushed == 10_000);
     assert!(rt; counts.dropped == 1_000);
