@@ -5,8 +5,8 @@ use crate::fixture::in_use;
 use span_core::{Attributes, FieldSet, FieldValue, Id, Kind, Lane, Level, Metadata};
 use span_dispatch::Dispatch;
 use span_export::{
-    PAGE_HEAD, PAGE_TAIL, Trace, TraceParent, chrome_lines, chrome_text, folded_text, otlp_lines,
-    timeline_page, timeline_svg,
+    PAGE_HEAD, PAGE_TAIL, Trace, TraceParent, chrome_lines, chrome_text, folded_text, otlp_batches,
+    otlp_lines, timeline_page, timeline_svg,
 };
 use span_layers::Observer;
 use span_registry::{Registry, Subscriber};
@@ -282,10 +282,12 @@ fn a_closed_span_is_left(rt: HostRuntime) -> Result<(), Fail> {
 
 const INNER: &str = "{\"resourceSpans\":[{\
 \"resource\":{\"attributes\":[{\"key\":\"service.name\",\"value\":{\"stringValue\":\"shop\"}}]},\
-\"scopeSpans\":[{\"scope\":{\"name\":\"app::net\"},\"spans\":[{\
-\"attributes\":[{\"key\":\"level\",\"value\":{\"stringValue\":\"DEBUG\"}}],\
+\"scopeSpans\":[{\"spans\":[{\
+\"attributes\":[{\"key\":\"level\",\"value\":{\"stringValue\":\"DEBUG\"}},\
+{\"key\":\"target\",\"value\":{\"stringValue\":\"app::net\"}}],\
 \"endTimeUnixNano\":\"1700000000000008000\",\
 \"events\":[{\"attributes\":[{\"key\":\"level\",\"value\":{\"stringValue\":\"WARN\"}},\
+{\"key\":\"target\",\"value\":{\"stringValue\":\"app\"}},\
 {\"key\":\"left\",\"value\":{\"intValue\":\"-3\"}}],\
 \"name\":\"<said>\",\"timeUnixNano\":\"1700000000000005000\"}],\
 \"kind\":1,\"links\":[],\"name\":\"inner\",\"parentSpanId\":\"0000000000000001\",\
@@ -294,8 +296,9 @@ const INNER: &str = "{\"resourceSpans\":[{\
 
 const OUTER: &str = "{\"resourceSpans\":[{\
 \"resource\":{\"attributes\":[{\"key\":\"service.name\",\"value\":{\"stringValue\":\"shop\"}}]},\
-\"scopeSpans\":[{\"scope\":{\"name\":\"app\"},\"spans\":[{\
+\"scopeSpans\":[{\"spans\":[{\
 \"attributes\":[{\"key\":\"level\",\"value\":{\"stringValue\":\"INFO\"}},\
+{\"key\":\"target\",\"value\":{\"stringValue\":\"app\"}},\
 {\"key\":\"id\",\"value\":{\"intValue\":\"7\"}},\
 {\"key\":\"for\",\"value\":{\"stringValue\":\"a \\\"b\\\"\"}}],\
 \"endTimeUnixNano\":\"1700000000000011999\",\"events\":[],\
@@ -327,6 +330,75 @@ fn spans_for_opentelemetry(rt: HostRuntime) -> Result<(), Fail> {
     assert!(rt; lines.len() == 2, "the span of the other lane isn't closed");
     assert!(rt; lines[0].as_str() == INNER);
     assert!(rt; lines[1].as_str() == OUTER);
+    Ok(())
+}
+
+/// Three spans close, one that opened elsewhere does, and one stays open.
+fn five_spans() -> [Point; 8] {
+    let (first, second, third) = (Id::from_u64(1), Id::from_u64(2), Id::from_u64(3));
+    let (elsewhere, open) = (Id::from_u64(4), Id::from_u64(5));
+    [
+        at(0, 0, Happening::Opened(first, 1, None)),
+        at(1, 0, Happening::Opened(second, 2, None)),
+        at(2, 0, Happening::Opened(third, 5, None)),
+        at(3, 0, Happening::Opened(open, 1, None)),
+        at(4, 0, Happening::Closed(second)),
+        at(5, 0, Happening::Closed(elsewhere)),
+        at(6, 0, Happening::Closed(third)),
+        at(7, 0, Happening::Closed(first)),
+    ]
+}
+
+/// The first request of two spans each. The second one has a name and a target that are hostile.
+const PAIR: &str = "{\"resourceSpans\":[{\
+\"resource\":{\"attributes\":[{\"key\":\"service.name\",\"value\":{\"stringValue\":\"shop\"}}]},\
+\"scopeSpans\":[{\"spans\":[{\
+\"attributes\":[{\"key\":\"level\",\"value\":{\"stringValue\":\"DEBUG\"}},\
+{\"key\":\"target\",\"value\":{\"stringValue\":\"app::net\"}}],\
+\"endTimeUnixNano\":\"1700000000000000004\",\"events\":[],\
+\"kind\":1,\"links\":[],\"name\":\"inner\",\"parentSpanId\":\"\",\
+\"spanId\":\"0000000000000002\",\"startTimeUnixNano\":\"1700000000000000001\",\"status\":{},\
+\"traceId\":\"000000000000000000000000000000ab\"},{\
+\"attributes\":[{\"key\":\"level\",\"value\":{\"stringValue\":\"INFO\"}},\
+{\"key\":\"target\",\"value\":{\"stringValue\":\"<;\\u0000>\"}}],\
+\"endTimeUnixNano\":\"1700000000000000006\",\"events\":[],\
+\"kind\":1,\"links\":[],\"name\":\"a\\n\\\"\",\"parentSpanId\":\"\",\
+\"spanId\":\"0000000000000003\",\"startTimeUnixNano\":\"1700000000000000002\",\"status\":{},\
+\"traceId\":\"000000000000000000000000000000ab\"}]}]}]}";
+
+#[test]
+fn spans_in_batches(rt: HostRuntime) -> Result<(), Fail> {
+    let alloc = rt.alloc();
+    let mut sites = sites(alloc)?;
+    sites.push(site(alloc, 5, "a\n\"", "<;\0>", Level::INFO)?)?;
+    let trace = trace_of_shop(alloc)?;
+    let pairs = otlp_batches(alloc, &trace, &five_spans(), names(&sites), 2)?;
+    assert!(rt; pairs.len() == 2);
+    assert!(rt; pairs[0].as_str() == PAIR);
+    assert!(rt;
+        pairs[1]
+            .as_str()
+            .contains("\"spanId\":\"0000000000000001\"")
+    );
+    assert!(rt; !pairs[1].as_str().contains("},{\"attributes\""));
+    let all = otlp_batches(alloc, &trace, &five_spans(), names(&sites), 3)?;
+    assert!(rt; all.len() == 1);
+    let none = otlp_batches(alloc, &trace, &five_spans()[..4], names(&sites), 3)?;
+    assert!(rt; none.is_empty());
+    Ok(())
+}
+
+#[test]
+fn batches_of_one_are_lines(rt: HostRuntime) -> Result<(), Fail> {
+    let alloc = rt.alloc();
+    let sites = sites(alloc)?;
+    let trace = trace_of_shop(alloc)?;
+    let lines = otlp_lines(alloc, &trace, &five_spans(), names(&sites))?;
+    let ones = otlp_batches(alloc, &trace, &five_spans(), names(&sites), 0)?;
+    assert!(rt; lines.len() == 3 && ones.len() == 3);
+    for place in 0..3 {
+        assert!(rt; ones[place].as_str() == lines[place].as_str());
+    }
     Ok(())
 }
 
@@ -407,6 +479,7 @@ fn what_a_span_follows_from_is_a_link(rt: HostRuntime) -> Result<(), Fail> {
 
 /// Each type as OpenTelemetry has it: what fits none is a text.
 const TYPED: &str = "\"attributes\":[\
+{\"key\":\"target\",\"value\":{\"stringValue\":\"app\"}},\
 {\"key\":\"level\",\"value\":{\"boolValue\":true}},\
 {\"key\":\"u\",\"value\":{\"stringValue\":\"9223372036854775808\"}},\
 {\"key\":\"v\",\"value\":{\"intValue\":\"9223372036854775807\"}},\

@@ -17,6 +17,7 @@ use Rattle.span_export.specs.Chrome.Change.{Begins, Ends}
 use Rattle.span_export.specs.Entry.{lasting}
 use Rattle.span_export.specs.Json.{members, object_of, whole}
 use Rattle.span_export.specs.Site.{Named, event_named, named_in}
+use Rattle.span_export.specs.private.Sent.{IsWithin}
 use Rattle.span_export.specs.Value.{value_data}
 use Rattle.span_times.specs.Field.{FieldSaid, Said}
 use Rattle.span_times.specs.Field.Said.{Flag, Real, Signed, Whole, Wide, WideSigned, Words}
@@ -52,11 +53,6 @@ members_within n (m ∷ ms) h = put_depth m.0 m.1 (members ms) n h.0 (members_wi
 -- an object is one deeper than its members
 pub object_within : (n : ℕ) (ms : List (List ℕ × Data)) → AreWithin n ms → depth (object_of ms) ≤ n + 1
 object_within n ms h = omega (arith, members_within n ms h)
-
--- nothing is deeper, if there is something
-abbrev pub IsWithin : ℕ → Option Data → Type 0
-IsWithin n None = ⊤
-IsWithin n (Some d) = depth d ≤ n
 
 one_more : (n : ℕ) (o : Option Data) (ds : List Data) → IsWithin n o → items_depth (items_of ds) ≤ n → items_depth (items_of (cons_option o ds)) ≤ n
 one_more n None ds h k = k

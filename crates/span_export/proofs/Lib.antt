@@ -1,4 +1,5 @@
 mod AllTime
+mod Batches
 mod BigEndian
 mod Boxes
 mod Depth
@@ -11,6 +12,7 @@ mod Kept
 mod Names
 mod Nest
 mod Openings
+mod Own
 mod Parents
 mod Phases
 mod Places

@@ -1,12 +1,12 @@
--- Requests to export spans: one by one, and how deep they nest.
+-- Spans that close: one by one, and how deep they and requests nest.
 use Rattle.std.proofs.Common.{arith, ◌≡◌, ◌≤◌, ◌∙◌, ◌<◌, ◌+◌, ◌==◌, ℕ, List, [], ◌∷◌, ◌++◌, Option, None, Some, ap, append_assoc, codes, drop, get_or}
 use Rattle.std.proofs.Common.{if◌then◌else◌}
 use Rattle.std.proofs.Common.{length, map, refl, string_bytes, subst, sym, take, true, false, Bool, nat_lt, decimal, ◌^◌}
 use Rattle.std.specs.Float.{float_is_finite}
 use Rattle.std.specs.Fmt.{signed_decimal}
 use Rattle.std.specs.List.{AllByRecursion, cons_option}
-use Rattle.std.specs.Option.{option_map, option_to_list}
-use Rattle.std.proofs.lemmas.List.{drop_more, map-append, take_more}
+use Rattle.std.specs.Option.{option_to_list}
+use Rattle.std.proofs.lemmas.List.{drop_more, take_more}
 use Rattle.serde_json.specs.Data.{Data, array, boolean, depth, float, items_depth, string}
 use Rattle.serde_json.specs.Read.{max_depth}
 use Rattle.serde_json.specs.View.{items_of, view}
@@ -16,15 +16,17 @@ use Rattle.span_core.specs.declared.span.Id.{Id}
 use Rattle.span_times.specs.declared.happening.Happening.TheVariants.{Closed, Entered, Followed, Left, Opened, Recorded, Renamed, Sent}
 use Rattle.span_times.specs.declared.happening.Happening.{Happening}
 use Rattle.span_times.specs.declared.happening.Point.{Point}
-use Rattle.span_export.proofs.Depth.{IsWithin, items_within, joined_within, mapped_within, number_flat, object_within}
-use Rattle.span_export.proofs.Kept.{seen_one}
+use Rattle.span_export.proofs.Depth.{items_within, joined_within, mapped_within, number_flat, object_within}
+use Rattle.span_export.specs.Attribute.{attribute_of, attributes_of, not_given}
+use Rattle.span_export.specs.Batch.{known_attribute, only, request_under, request_value, resource_attributes, resource_value}
 use Rattle.span_export.specs.Json.{object_of, whole}
-use Rattle.span_export.specs.Otlp.{attribute_of, attributes_of, event_of, event_value, events_of, has_error, is_in, known_attribute, level_attribute, link_of}
-use Rattle.span_export.specs.Otlp.{link_value, links_of, nanos, only}
-use Rattle.span_export.specs.Otlp.{request_at, request_of, request_value, requests_from, resource_attributes, since_opening, span_head, span_id, span_value}
-use Rattle.span_export.specs.Otlp.{status_value, text_attribute, trace_id}
-use Rattle.span_export.specs.Site.{Named, called, event_named, is_given, leveled, targeted}
+use Rattle.span_export.specs.Otlp.{event_known, event_of, event_value, events_of, has_error, is_in, link_of, link_value, links_of, nanos}
+use Rattle.span_export.specs.Otlp.{since_opening, span_at, span_head, span_id, span_of, span_value, spans_from, status_value, trace_id}
+use Rattle.span_export.specs.Site.{Named, called, event_named}
 use Rattle.span_export.specs.Value.{number_or, proto_name, typed, typed_data}
+use Rattle.span_export.specs.private.Sent.{IsWithin}
+use Rattle.span_export.specs.declared.batch.Signal.TheVariants.{Logs, Spans}
+use Rattle.span_export.specs.declared.batch.Signal.{Signal}
 use Rattle.span_export.specs.declared.otlp.Closed.{Closed as ClosedSpan}
 use Rattle.span_export.specs.declared.otlp.Trace.{Trace}
 use Rattle.span_times.specs.Field.{FieldSaid, Said}
@@ -35,26 +37,20 @@ in_front : (o : Option Data) (ds : List Data) → cons_option o ds ≡ option_to
 in_front None ds = refl
 in_front (Some d) ds = refl
 
--- one more point is looked at, and its request, if it has one, is put behind the others
-pub request_more : (trace : Trace) (table : Table) (named : ℕ → Named)
-    (all : List Point) (i : ℕ) (d : Point) (old new : List Value) (o : Option Value) (whole : List Data) → i < length all
-    → option_map view o ≡ request_at trace table named (take i all) (get_or all i d) (get_or all i d).what → new ≡ old ++ option_to_list o
-    → map view old ++ requests_from trace table named (take i all) (drop i all) ≡ whole
-    → map view new ++ requests_from trace table named (take (i + 1) all) (drop (i + 1) all) ≡ whole
-request_more trace table named all i d old new o whole within due grew so_far =
+-- one more point is looked at, and the span that closes there, if one does, is put behind the others
+pub span_more : (trace : Trace) (table : Table)
+    (named : ℕ → Named) (all : List Point) (i : ℕ) (d : Point) (old : List Data) (o : Option Data) (whole : List Data)
+    → i < length all → o ≡ span_at trace table named (take i all) (get_or all i d) (get_or all i d).what
+    → old ++ spans_from trace table named (take i all) (drop i all) ≡ whole
+    → (old ++ option_to_list o) ++ spans_from trace table named (take (i + 1) all) (drop (i + 1) all) ≡ whole
+span_more trace table named all i d old o whole within due so_far =
     let before = take i all in
     let point = get_or all i d in
-    let rest = requests_from trace table named (before ++ point ∷ []) (drop (i + 1) all) in
-    let here : option_to_list (option_map view o) ++ rest ≡ requests_from trace table named before (drop i all) =
-    sym (in_front (option_map view o) rest) ∙ ap (λ r. cons_option r rest) due ∙ sym (ap (requests_from trace table named before) (drop_more all i d within)) in
-    ap (λ b. map view new ++ requests_from trace table named b (drop (i + 1) all)) (take_more all i d within)
-    ∙ ap (λ vs. map view vs ++ rest) grew ∙ ap (λ ds. ds ++ rest) (map-append view old (option_to_list o) ∙ ap (λ ds. map view old ++ ds) (seen_one view o))
-    ∙ append_assoc (map view old) (option_to_list (option_map view o)) rest ∙ ap (λ ds. map view old ++ ds) here ∙ so_far
-
-text_depth : (key text : List ℕ) → depth (text_attribute key text) ≤ 2
-text_depth key text =
-    let value = object_within 0 ((codes "stringValue", string text) ∷ []) (omega arith, tt) in
-    object_within 1 ((codes "key", string key) ∷ (codes "value", object_of ((codes "stringValue", string text) ∷ [])) ∷ []) (omega arith, (value, tt))
+    let rest = spans_from trace table named (before ++ point ∷ []) (drop (i + 1) all) in
+    let here : option_to_list o ++ rest ≡ spans_from trace table named before (drop i all) =
+    sym (in_front o rest) ∙ ap (λ r. cons_option r rest) due ∙ sym (ap (spans_from trace table named before) (drop_more all i d within)) in
+    ap (λ b. (old ++ option_to_list o) ++ spans_from trace table named b (drop (i + 1) all)) (take_more all i d within)
+    ∙ append_assoc old (option_to_list o) rest ∙ ap (λ ds. old ++ ds) here ∙ so_far
 
 one_typed : (key : List ℕ) (d : Data) → depth d ≤ 0 → depth (typed key d) ≤ 1
 one_typed key d flat = object_within 0 ((key, d) ∷ []) (flat, tt)
@@ -75,18 +71,8 @@ typed_depth (Words text) = one_typed (codes "stringValue") (string text) (omega 
 attribute_depth : (f : FieldSaid) → depth (attribute_of f) ≤ 2
 attribute_depth f = object_within 1 ((codes "key", string f.0) ∷ (codes "value", typed_data f.1) ∷ []) (omega arith, (typed_depth f.1, tt))
 
-level_depth : (b : Bool) (d : Data) → depth d ≤ 2 → items_depth (items_of (if b then [] else d ∷ [])) ≤ 2
-level_depth true d h = omega arith
-level_depth false d h = omega (arith, h)
-
-attributes_depth : (name : Named) → depth (attributes_of name) ≤ 3
-attributes_depth name =
-    let level =
-    level_depth (is_given (codes "level") name.given) (text_attribute (codes "level") (leveled name)) (text_depth (codes "level") (leveled name)) in
-    omega (
-      arith,
-      joined_within 2 (level_attribute name) (map attribute_of name.given) level (mapped_within 2 attribute_of attribute_depth name.given),
-    )
+attributes_depth : (known given : List FieldSaid) → depth (attributes_of known given) ≤ 3
+attributes_depth known given = omega (arith, mapped_within 2 attribute_of attribute_depth (not_given given known ++ given))
 
 only_depth : (d : Data) (n : ℕ) → depth d ≤ n → depth (only d) ≤ n + 1
 only_depth d n h = omega (arith, h)
@@ -94,8 +80,8 @@ only_depth d n h = omega (arith, h)
 event_depth : (trace : Trace) (name : Named) (time : ℕ) → depth (event_value trace name time) ≤ 4
 event_depth trace name time =
     object_within 3 ((codes "timeUnixNano", nanos trace time)
-    ∷ (codes "name", string (called name)) ∷ (codes "attributes", attributes_of name) ∷ [])
-    (omega arith, (omega arith, (attributes_depth name, tt)))
+    ∷ (codes "name", string (called name)) ∷ (codes "attributes", attributes_of (event_known name) name.given) ∷ [])
+    (omega arith, (omega arith, (attributes_depth (event_known name) name.given, tt)))
 
 event_within : (b : Bool) (trace : Trace) (name : Named) (time : ℕ) → IsWithin 4 (if b then Some (event_value trace name time) else None)
 event_within true trace name time = event_depth trace name time
@@ -145,52 +131,61 @@ span_depth : (trace : Trace) (table : Table) (name : Named) (span : ClosedSpan) 
 span_depth trace table name span since =
     object_within 5 ((codes "status", status_value (has_error table.sites.now span.id since))
     ∷ (codes "links", array (items_of (links_of trace span.id since))) ∷ (codes "events", array (items_of (events_of trace table span.id since)))
-    ∷ (codes "attributes", attributes_of name) ∷ (codes "name", string (called name)) ∷ span_head trace span) (
+    ∷ (codes "attributes", attributes_of (event_known name) name.given) ∷ (codes "name", string (called name)) ∷ span_head trace span) (
       omega (arith, status_depth (has_error table.sites.now span.id since)),
       (
         omega (arith, links_depth trace span.id since),
         (
           events_depth trace table span.id since,
-          (omega (arith, attributes_depth name), (omega arith, (omega arith, (omega arith, (omega arith, (omega arith, (omega arith, (omega arith, tt)))))))),
+          (
+            omega (arith, attributes_depth (event_known name) name.given),
+            (omega arith, (omega arith, (omega arith, (omega arith, (omega arith, (omega arith, (omega arith, tt))))))),
+          ),
         ),
       ),
     )
 
-resource_depth : (trace : Trace) → depth (array (items_of (resource_attributes trace))) ≤ 3
+resource_depth : (trace : Trace) → depth (resource_value trace) ≤ 4
 resource_depth trace =
-    let service = text_attribute (codes "service.name") (string_bytes trace.service) in
+    let service = attribute_of (codes "service.name", Words (string_bytes trace.service)) in
     let all = map known_attribute trace.attributes.items in
-    let first : items_depth (items_of (service ∷ [])) ≤ 2 = omega (arith, text_depth (codes "service.name") (string_bytes trace.service)) in
+    let first : items_depth (items_of (service ∷ [])) ≤ 2 = omega (arith, attribute_depth (codes "service.name", Words (string_bytes trace.service))) in
     let rest : items_depth (items_of all) ≤ 2 =
-    mapped_within 2 known_attribute (λ a. text_depth (string_bytes a.0) (string_bytes a.1)) trace.attributes.items in
-    omega (arith, joined_within 2 (service ∷ []) all first rest)
+    mapped_within 2 known_attribute (λ a. attribute_depth (string_bytes a.0, Words (string_bytes a.1))) trace.attributes.items in
+    object_within 3 ((codes "attributes", array (items_of (resource_attributes trace))) ∷ []) (omega (arith, joined_within 2 (service ∷ []) all first rest), tt)
 
-request_depth : (trace : Trace) (name : Named) (span : Data) → depth span ≤ 6 → depth (request_value trace name span) ≤ 127
-request_depth trace name span h =
-    let target = object_of ((codes "name", string (targeted name)) ∷ []) in
-    let spans = object_of ((codes "scope", target) ∷ (codes "spans", only span) ∷ []) in
-    let known = array (items_of (resource_attributes trace)) in
-    let resource = object_of ((codes "attributes", known) ∷ []) in
-    let both = object_of ((codes "resource", resource) ∷ (codes "scopeSpans", only spans) ∷ []) in
-    let one : depth target ≤ 1 = object_within 0 ((codes "name", string (targeted name)) ∷ []) (omega arith, tt) in
-    let two : depth (only span) ≤ 7 = only_depth span 6 h in
-    let three : depth spans ≤ 8 = object_within 7 ((codes "scope", target) ∷ (codes "spans", only span) ∷ []) (omega arith, (two, tt)) in
-    let five : depth resource ≤ 4 = object_within 3 ((codes "attributes", known) ∷ []) (resource_depth trace, tt) in
-    let six : depth (only spans) ≤ 9 = only_depth spans 8 three in
-    let seven : depth both ≤ 10 = object_within 9 ((codes "resource", resource) ∷ (codes "scopeSpans", only spans) ∷ []) (omega arith, (six, tt)) in
-    let eight : depth (only both) ≤ 11 = only_depth both 10 seven in
-    let nine : depth (object_of ((codes "resourceSpans", only both) ∷ [])) ≤ 12 = object_within 11 ((codes "resourceSpans", only both) ∷ []) (eight, tt) in
+values_within : (n : ℕ) (ds : List Data) → AllByRecursion (λ d. depth d ≤ n) ds → items_depth (items_of ds) ≤ n
+values_within n [] h = omega arith
+values_within n (d ∷ ds) h = omega (arith, h.0, values_within n ds h.1)
+
+under_depth : (resources scopes items : List ℕ) (trace : Trace) (ds : List Data)
+    → AllByRecursion (λ d. depth d ≤ 6) ds → depth (request_under resources scopes items trace ds) ≤ 127
+under_depth resources scopes items trace ds h =
+    let values : depth (array (items_of ds)) ≤ 7 = omega (arith, values_within 6 ds h) in
+    let scope = object_of ((items, array (items_of ds)) ∷ []) in
+    let one : depth scope ≤ 8 = object_within 7 ((items, array (items_of ds)) ∷ []) (values, tt) in
+    let two : depth (only scope) ≤ 9 = only_depth scope 8 one in
+    let both = object_of ((codes "resource", resource_value trace) ∷ (scopes, only scope) ∷ []) in
+    let three : depth both ≤ 10 = object_within 9 ((codes "resource", resource_value trace) ∷ (scopes, only scope) ∷ [])
+    (omega (arith, resource_depth trace), (two, tt)) in
+    let four : depth (only both) ≤ 11 = only_depth both 10 three in
+    let five : depth (object_of ((resources, only both) ∷ [])) ≤ 12 = object_within 11 ((resources, only both) ∷ []) (four, tt) in
     omega arith
 
+-- a request can be read back
+pub request_depth : (signal : Signal) (trace : Trace) (ds : List Data)
+    → AllByRecursion (λ d. depth d ≤ 6) ds → depth (request_value signal trace ds) ≤ 127
+request_depth Spans trace ds h = under_depth (codes "resourceSpans") (codes "scopeSpans") (codes "spans") trace ds h
+request_depth Logs trace ds h = under_depth (codes "resourceLogs") (codes "scopeLogs") (codes "logRecords") trace ds h
+
 closed_depth : (trace : Trace) (table : Table) (name : Named) (id : Id) (close : Point) (since : List Point)
-    → IsWithin 127 (request_of trace table name id close since)
+    → IsWithin 6 (span_of trace table name id close since)
 closed_depth trace table name id close [] = tt
 closed_depth trace table name id close (opening ∷ since) =
-    let span : ClosedSpan = record { id = id; opening = opening; close = close } in
-    request_depth trace name (span_value trace table name span since) (span_depth trace table name span since)
+    let span : ClosedSpan = record { id = id; opening = opening; close = close } in span_depth trace table name span since
 
 point_depth : (trace : Trace) (table : Table) (named : ℕ → Named) (before : List Point) (p : Point) (what : Happening)
-    → IsWithin 127 (request_at trace table named before p what)
+    → IsWithin 6 (span_at trace table named before p what)
 point_depth trace table named before p (Closed id) = closed_depth trace table (named (number_of id)) id p (since_opening (number_of id) before)
 point_depth trace table named before p (Sent callsite parent) = tt
 point_depth trace table named before p (Entered x) = tt
@@ -200,23 +195,12 @@ point_depth trace table named before p (Recorded x) = tt
 point_depth trace table named before p (Followed x other) = tt
 point_depth trace table named before p (Renamed x other) = tt
 
-one_more : (o : Option Data) (ds : List Data) → IsWithin 127 o → AllByRecursion (λ d. depth d ≤ 127) ds → AllByRecursion (λ d. depth d ≤ 127) (cons_option o ds)
-one_more None ds h k = k
-one_more (Some d) ds h k = (h, k)
-
-requests_depth : (trace : Trace) (table : Table) (named : ℕ → Named) (before rest : List Point)
-    → AllByRecursion (λ d. depth d ≤ 127) (requests_from trace table named before rest)
-requests_depth trace table named before [] = tt
-requests_depth trace table named before (p ∷ rest) =
-    one_more (request_at trace table named before p p.what) (requests_from trace table named (before ++ p ∷ []) rest)
-    (point_depth trace table named before p p.what) (requests_depth trace table named (before ++ p ∷ []) rest)
+-- a span is flat enough for a request
+pub due_depth : (trace : Trace) (table : Table) (named : ℕ → Named) (all : List Point) (i : ℕ) (d : Point) (o : Option Data)
+    → o ≡ span_at trace table named (take i all) (get_or all i d) (get_or all i d).what → IsWithin 6 o
+due_depth trace table named all i d o e =
+    subst (IsWithin 6) (sym e) (point_depth trace table named (take i all) (get_or all i d) (get_or all i d).what)
 
 pub values_depth : (vs : List Value) → AllByRecursion (λ d. depth d ≤ 127) (map view vs) → AllByRecursion (λ v. depth (view v) ≤ max_depth) vs
 values_depth [] h = tt
 values_depth (v ∷ vs) h = (h.0, values_depth vs h.1)
-
--- requests can be read back
-pub requests_are_shallow : (trace : Trace) (table : Table) (named : ℕ → Named) (ps : List Point) (vs : List Value)
-    → map view vs ≡ requests_from trace table named [] ps → AllByRecursion (λ v. depth (view v) ≤ max_depth) vs
-requests_are_shallow trace table named ps vs e =
-    values_depth vs (subst (AllByRecursion (λ d. depth d ≤ 127)) (sym e) (requests_depth trace table named [] ps))

@@ -22,6 +22,10 @@ whole n = number (unsigned n)
 abbrev pub Means : List ℕ → Data → Type 0
 Means text value = read text ≡ Some value
 
+-- each line means the value in its place
+abbrev pub AllMean : List (List ℕ) → List Data → Type 0
+AllMean lines values = map read lines ≡ map Some values
+
 -- the tokens of a text, printed with nothing between them
 abbrev pub reprinted : List ℕ → List ℕ
 reprinted text = print (tokens text)

@@ -1,3 +1,5 @@
+pub mod Attribute
+pub mod Batch
 pub mod Chrome
 pub mod Entry
 pub mod Escape

@@ -1,23 +1,22 @@
 //! Points in Chrome's trace format, which Perfetto opens.
 ghost use Rattle.std.specs.BTreeSet.{contains};
-ghost use Rattle.std.specs.List.{list_any};
+ghost use Rattle.std.specs.List.{AllByRecursion, list_any};
 ghost use Rattle.std.specs.Ordering.{nat_cmp};
 ghost use Rattle.std.specs.Option.{option_map};
-ghost use Rattle.std.specs.Prelude.{◌≡◌, ◌++◌, ◌==◌, ◌||◌, [], ◌∷◌, ℕ, IfOk, OnOk, codes, decimal, filter, flat_map, map, not, reverse, string_bytes};
-ghost use Rattle.serde_json.specs.Data.{string};
+ghost use Rattle.std.specs.Prelude.{◌≡◌, ◌≤◌, ◌++◌, ◌==◌, ◌||◌, [], ◌∷◌, ℕ, IfOk, OnOk, codes, decimal, filter, flat_map, map, not, reverse, string_bytes};
+ghost use Rattle.serde_json.specs.Data.{depth, string};
+ghost use Rattle.serde_json.specs.Read.{max_depth};
 ghost use Rattle.serde_json.specs.View.{items_view, view};
 ghost use Rattle.span_core.specs.Span.{number_of};
 ghost use Rattle.span_export.specs.Chrome.{args_of, begin_event, begin_of, change_event, changes, closed_on, end_event, events_at, events_since, instant, lane_named, lanes_in, micros, naming, own_event, redrawn, trace_of, trace_with};
 ghost use Rattle.span_export.specs.Chrome.Change.{Begins, Ends};
-ghost use Rattle.span_export.specs.Json.{AreCompact, Means};
+ghost use Rattle.span_export.specs.Json.{AllMean, AreCompact, Means};
 ghost use Rattle.span_export.specs.Entry.{is_of, spans_on};
 ghost use Rattle.span_export.specs.Moment.{names};
-ghost use Rattle.span_export.specs.Otlp.{AllMean};
 ghost use Rattle.span_export.specs.Site.{event_named, given_said, named_so};
 
 use crate::entry::{Entry, go_on, since_newest, since_oldest, spans_on};
 use crate::given::latest_given;
-use crate::otlp::lines_of;
 use crate::site::{Name, Spans, find_site};
 use crate::value::value_of;
 use serde_json::{Map, Value, json, put};
@@ -74,6 +73,20 @@ pub fn chrome_lines(
 {
     let events = trace_events(alloc, points, table, begin)?;
     lines_of(alloc, &events)
+}
+
+/// A line for each value.
+fn lines_of(alloc: Global, values: &[Value]) -> Result<Vec<String>, AllocError>
+    requires { AllByRecursion (λ v. depth (view v) ≤ max_depth) values.now }
+    ensures mean { IfOk result
+        (λ lines. AllMean (map string_bytes lines.items) (map view values.now)) }
+    ensures compact { IfOk result (λ lines. AreCompact (map string_bytes lines.items)) }
+{
+    let mut lines = Vec::new(alloc);
+    for value in values {
+        lines.push(value.to_string(alloc)?)?;
+    }
+    Ok(lines)
 }
 
 /// A trace of these events.

@@ -5,6 +5,8 @@
 //! while a program runs.
 #![tactic(auto)]
 
+mod attribute;
+mod batch;
 mod chrome;
 mod entry;
 mod escape;
@@ -23,7 +25,7 @@ mod when;
 
 pub use chrome::{chrome_lines, chrome_text};
 pub use folded::folded_text;
-pub use otlp::{Trace, otlp_lines};
+pub use otlp::{Trace, otlp_batches, otlp_lines};
 pub use page::{PAGE_HEAD, PAGE_TAIL, timeline_page};
 pub use picture::timeline_svg;
 pub use trace_parent::{TraceParent, WrongTraceParent};

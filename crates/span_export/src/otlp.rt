@@ -1,25 +1,26 @@
 //! Points as OpenTelemetry's spans, in its JSON.
 ghost use Rattle.std.specs.Int.{to_be_bytes, w128};
-ghost use Rattle.std.specs.List.{AllByRecursion};
 ghost use Rattle.std.specs.Option.{option_copied, option_map};
-ghost use Rattle.std.specs.Prelude.{◌≡◌, ◌≤◌, ◌++◌, [], IfOk, OnOk, Some, map, string_bytes};
+ghost use Rattle.std.specs.Prelude.{◌≡◌, [], IfOk, Some, map, string_bytes};
 ghost use Rattle.hex.specs.Hex.{encode_lower};
-ghost use Rattle.serde_json.specs.Data.{depth, string};
-ghost use Rattle.serde_json.specs.Read.{max_depth};
-ghost use Rattle.serde_json.specs.View.{items_view, members_view, view};
+ghost use Rattle.serde_json.specs.Data.{string};
+ghost use Rattle.serde_json.specs.View.{members_view, view};
 ghost use Rattle.span_core.specs.Span.{number_of};
-ghost use Rattle.span_export.specs.Json.{AreCompact, members};
-ghost use Rattle.span_export.specs.Otlp.{AllMean, attribute_of, attributes_of, event_of, event_value, events_of, has_error, is_failure, is_of_errors, known_attribute, level_attribute, link_of, link_value, links_of, nanos, parent_of, request_at, request_value, requests_from, requests_of, resource_attributes, since_opening, span_head, span_id, span_value, status_value, text_attribute};
-ghost use Rattle.span_export.specs.Site.{event_named, given_said, named_by, named_so};
-ghost use Rattle.span_times.specs.Field.{field_said};
+ghost use Rattle.span_export.specs.Batch.{AreBatches};
+ghost use Rattle.span_export.specs.Json.{AllMean, AreCompact, members};
+ghost use Rattle.span_export.specs.Otlp.{event_of, event_value, events_of, has_error, is_failure, is_of_errors, link_of, link_value, links_of, nanos, parent_of, requests_of, since_opening, span_at, span_head, span_id, span_value, spans_from, spans_of, status_value};
+ghost use Rattle.span_export.specs.Site.{event_named, named_by, named_so};
+ghost use Rattle.span_export.specs.declared.batch.Signal.TheVariants as signal;
+ghost use Rattle.span_export.specs.private.Sent.{AreSent};
 
-use crate::given::{is_given, latest_given};
+use crate::attribute::event_attributes;
+use crate::batch::{Batches, Plan, Signal};
+use crate::given::latest_given;
 use crate::site::{Name, Spans, find_site};
 use crate::trace_parent::TraceParent;
-use crate::value::typed_value;
 use serde_json::{Map, Value, json, put};
 use span_core::{Id, Level};
-use span_times::{Happening, OwnedField, Point, Site, Table};
+use span_times::{Happening, Point, Site, Table};
 use std::alloc::{AllocError, Global};
 
 /// What OpenTelemetry asks for of a trace beside its points.
@@ -63,9 +64,9 @@ impl Trace {
 /// A span has the parent and the events that the timeline found: where it stands under a filter,
 /// the nearest span above that this let by; a span without one has the trace's. Each span that it
 /// follows from is a link. Events and links are those behind the opening, so hand over all points
-/// since then. What a span or an event was given are its attributes, and so is its level unless a
-/// field is called `level`; of two fields of one name the later one. A span in which an event of
-/// level ERROR came has the status of an error.
+/// since then. What a span or an event was given are its attributes, and so are its level and its
+/// target unless a field is called `level` or `target`; of two fields of one name the later one. A
+/// span in which an event of level ERROR came has the status of an error.
 pub fn otlp_lines(
     alloc: Global,
     trace: &Trace,
@@ -76,47 +77,53 @@ pub fn otlp_lines(
         (requests_of trace.now table.entry points.now)) }
     ensures compact { IfOk result (λ lines. AreCompact (map string_bytes lines.items)) }
 {
-    let spans = Spans::of(alloc, points, table)?;
-    let requests = requests(alloc, trace, table, &spans, points)?;
-    lines_of(alloc, &requests)
+    otlp_batches(alloc, trace, points, table, 1)
 }
 
-/// A line for each value.
-pub(crate) fn lines_of(alloc: Global, values: &[Value]) -> Result<Vec<String>, AllocError>
-    requires { AllByRecursion (λ v. depth (view v) ≤ max_depth) values.now }
-    ensures mean { IfOk result
-        (λ lines. AllMean (map string_bytes lines.items) (map view values.now)) }
-    ensures compact { IfOk result (λ lines. AreCompact (map string_bytes lines.items)) }
-{
-    let mut lines = Vec::new(alloc);
-    for value in values {
-        lines.push(value.to_string(alloc)?)?;
-    }
-    Ok(lines)
-}
-
-/// The requests for the spans that close at these points.
-fn requests(
+/// The lines of `otlp_lines`, with up to so many spans in each request: in the order of their
+/// closes, each once, in as few requests as that takes. 0 counts as 1.
+pub fn otlp_batches(
     alloc: Global,
     trace: &Trace,
+    points: &[Point],
+    table: Table<'_>,
+    most: usize,
+) -> Result<Vec<String>, AllocError>
+    ensures mean { IfOk result (λ lines. AreBatches signal.Spans trace.now most
+        (spans_of trace.now table.entry points.now) (map string_bytes lines.items)) }
+    ensures compact { IfOk result (λ lines. AreCompact (map string_bytes lines.items)) }
+{
+    let spans = Spans::of(alloc, points, table)?;
+    let plan = Plan {
+        trace,
+        signal: Signal::Spans,
+        most,
+    };
+    let batches = batches(alloc, plan, table, &spans, points)?;
+    batches.finish(alloc, plan)
+}
+
+/// The spans that close at these points, in batches.
+fn batches(
+    alloc: Global,
+    plan: Plan<'_>,
     table: Table<'_>,
     spans: &Spans<'_>,
     points: &[Point],
-) -> Result<Vec<Value>, AllocError>
-    ensures { IfOk result (λ requests. map view requests.items
-        ≡ requests_from trace.now table.entry (named_by spans.now) [] points.now) }
+) -> Result<Batches, AllocError>
+    ensures { IfOk result (λ batches. AreSent plan.entry
+        (spans_from plan.entry.trace.now table.entry (named_by spans.now) [] points.now) batches) }
 {
-    let mut requests = Vec::new(alloc);
+    let mut batches = Batches::new(alloc);
     for (place, point) in points.iter().enumerate() {
-        if let Some(request) = request(alloc, trace, table, spans, &points[..place], point)? {
-            requests.push(request)?;
-        }
+        let span = span_at(alloc, plan.trace, table, spans, &points[..place], point)?;
+        batches.add(alloc, plan, span)?;
     }
-    Ok(requests)
+    Ok(batches)
 }
 
-/// The request of a point behind these, if a span closes there that one of these opens.
-fn request(
+/// The span that closes at a point behind these, if one does that one of these opens.
+fn span_at(
     alloc: Global,
     trace: &Trace,
     table: Table<'_>,
@@ -124,8 +131,8 @@ fn request(
     before: &[Point],
     point: &Point,
 ) -> Result<Option<Value>, AllocError>
-    ensures { IfOk result (λ request. option_map view request
-        ≡ request_at trace.now table.entry (named_by spans.now) before.now point.now
+    ensures { IfOk result (λ span. option_map view span
+        ≡ span_at trace.now table.entry (named_by spans.now) before.now point.now
         point.now.what) }
 {
     let Happening::Closed(id) = point.what else {
@@ -140,8 +147,7 @@ fn request(
         opening: *opening,
         close: *point,
     };
-    let span = span(alloc, trace, table, name, closed, since)?;
-    Ok(Some(request_for(alloc, trace, name, span)?))
+    Ok(Some(span(alloc, trace, table, name, closed, since)?))
 }
 
 /// The points from the last on that opens a span; none where none does.
@@ -154,50 +160,6 @@ fn since_opening(points: &[Point], id: Id) -> &[Point]
         }
     }
     &[]
-}
-
-/// A request to export one span.
-fn request_for(
-    alloc: Global,
-    trace: &Trace,
-    name: Name<'_>,
-    span: Value,
-) -> Result<Value, AllocError>
-    ensures { IfOk result (λ request. view request
-        ≡ request_value trace.now (named_so name.entry) (view span)) }
-{
-    let attributes = Value::Array(resource_attributes(alloc, trace)?);
-    json!(in alloc; {
-        "resourceSpans": [{
-            "resource": {"attributes": attributes},
-            "scopeSpans": [{"scope": {"name": name.target()}, "spans": [span]}]
-        }]
-    })
-}
-
-/// What is known of the service: its name, and the attributes of the trace.
-fn resource_attributes(alloc: Global, trace: &Trace) -> Result<Vec<Value>, AllocError>
-    ensures { IfOk result (λ pairs. map view pairs.items ≡ resource_attributes trace.now) }
-{
-    let mut pairs = Vec::new(alloc);
-    pairs.push(text_attribute(alloc, "service.name", trace.service.as_str())?)?;
-    write_known(alloc, &mut pairs, &trace.attributes)?;
-    Ok(pairs)
-}
-
-/// Writes keys and texts as attributes behind these.
-fn write_known(
-    alloc: Global,
-    pairs: &mut Vec<Value>,
-    known: &[(String, String)],
-) -> Result<(), AllocError>
-    ensures { OnOk result (map view pairs.new.items
-        ≡ map view pairs.old.items ++ map known_attribute known.now) }
-{
-    for item in known {
-        pairs.push(text_attribute(alloc, item.0.as_str(), item.1.as_str())?)?;
-    }
-    Ok(())
 }
 
 /// A span that closed.
@@ -223,7 +185,12 @@ fn span(
     let mut members = span_head(alloc, trace, closed)?;
     let text = Value::try_from_str(alloc, name.name())?;
     put(&mut members, alloc, "name", text)?;
-    put(&mut members, alloc, "attributes", attributes(alloc, name)?)?;
+    put(
+        &mut members,
+        alloc,
+        "attributes",
+        event_attributes(alloc, name)?,
+    )?;
     let events = Value::Array(events(alloc, trace, table, closed.id, since)?);
     put(&mut members, alloc, "events", events)?;
     let links = Value::Array(links(alloc, trace, closed.id, since)?);
@@ -398,58 +365,8 @@ fn event(
     json!(in alloc; {
         "timeUnixNano": nanos(alloc, trace, point.time)?,
         "name": name.name(),
-        "attributes": attributes(alloc, name)?
+        "attributes": event_attributes(alloc, name)?
     })
-}
-
-/// The attributes of a span or an event: its level, unless it was given a field with that name, and
-/// what it was given.
-fn attributes(alloc: Global, name: Name<'_>) -> Result<Value, AllocError>
-    ensures { IfOk result (λ pairs. view pairs ≡ attributes_of (named_so name.entry)) }
-{
-    let mut pairs = level(alloc, name)?;
-    write_attributes(alloc, &mut pairs, name.given)?;
-    Ok(Value::Array(pairs))
-}
-
-/// The level of a span or an event as an attribute, unless it was given a field with that name.
-fn level(alloc: Global, name: Name<'_>) -> Result<Vec<Value>, AllocError>
-    ensures { IfOk result (λ pairs. map view pairs.items ≡ level_attribute (named_so name.entry)) }
-{
-    let mut pairs = Vec::new(alloc);
-    if !is_given(name.given, "level") {
-        pairs.push(text_attribute(alloc, "level", name.level())?)?;
-    }
-    Ok(pairs)
-}
-
-/// Writes fields as attributes behind these.
-fn write_attributes(
-    alloc: Global,
-    pairs: &mut Vec<Value>,
-    given: &[&OwnedField],
-) -> Result<(), AllocError>
-    ensures { OnOk result (map view pairs.new.items
-        ≡ map view pairs.old.items ++ map attribute_of (given_said given.now)) }
-{
-    for field in given {
-        pairs.push(attribute(alloc, field)?)?;
-    }
-    Ok(())
-}
-
-/// A field as an attribute.
-fn attribute(alloc: Global, field: &OwnedField) -> Result<Value, AllocError>
-    ensures { IfOk result (λ pair. view pair ≡ attribute_of (field_said field.now)) }
-{
-    json!(in alloc; {"key": field.name.as_str(), "value": typed_value(alloc, &field.value)?})
-}
-
-/// An attribute whose value is a text.
-fn text_attribute(alloc: Global, key: &str, text: &str) -> Result<Value, AllocError>
-    ensures { IfOk result (λ pair. view pair ≡ text_attribute key.now text.now) }
-{
-    json!(in alloc; {"key": key, "value": {"stringValue": text}})
 }
 
 /// The number of a trace as 32 hex digits.

@@ -1,7 +1,10 @@
-use Rattle.span_export.proofs.Requests.{requests_are_shallow}
-use Rattle.span_export.specs.Site.{named_by}
+use Rattle.std.proofs.Common.{map, string_bytes}
+use Rattle.span_export.proofs.Batches.{lines_of_one, on_ok}
+use Rattle.span_export.specs.Otlp.{spans_of}
+use Rattle.span_export.specs.declared.batch.Signal.TheVariants.{Spans}
 use Rattle.span_export.proofs.otlp.otlp_lines.Goals as goal
 
-pub lines_of-requires : goal.lines_of-requires
-lines_of-requires c = rw c.deref.ensures.value (requests_are_shallow c.args.trace.now c.args.table (named_by c.in_ok-spans.spans) c.args.points.now
-    c.in_ok-requests.requests.items c.in_ok-requests.ensures)
+pub returns-clause-mean : goal.returns-clause-mean
+returns-clause-mean c =
+    on_ok c.otlp_batches.result c.otlp_batches.ensures.mean
+    (λ lines h. lines_of_one Spans c.args.trace.now (spans_of c.args.trace.now c.args.table c.args.points.now) (map string_bytes lines.items) h)

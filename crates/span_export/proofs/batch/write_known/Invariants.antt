@@ -1,7 +1,7 @@
 use Rattle.std.proofs.Common.{◌≡◌, ◌++◌, map, take}
 use Rattle.serde_json.specs.View.{view}
-use Rattle.span_export.specs.Otlp.{known_attribute}
-use Rattle.span_export.proofs.otlp.write_known.Given as goal
+use Rattle.span_export.specs.Batch.{known_attribute}
+use Rattle.span_export.proofs.batch.write_known.Given as goal
 
 -- the attributes so far
 abbrev pub invariant-loop-item : goal.invariant-loop-item

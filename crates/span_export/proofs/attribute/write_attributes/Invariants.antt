@@ -1,8 +1,8 @@
 use Rattle.std.proofs.Common.{◌≡◌, ◌++◌, map, take}
 use Rattle.serde_json.specs.View.{view}
-use Rattle.span_export.specs.Otlp.{attribute_of}
+use Rattle.span_export.specs.Attribute.{attribute_of}
 use Rattle.span_times.specs.Field.{field_said}
-use Rattle.span_export.proofs.otlp.write_attributes.Given as goal
+use Rattle.span_export.proofs.attribute.write_attributes.Given as goal
 
 -- the attributes so far
 abbrev pub invariant-loop-field : goal.invariant-loop-field

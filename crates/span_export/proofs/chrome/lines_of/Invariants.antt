@@ -2,7 +2,7 @@ use Rattle.std.proofs.Common.{◌≡◌, Some, map, string_bytes, take}
 use Rattle.serde_json.specs.Read.{read}
 use Rattle.serde_json.specs.View.{view}
 use Rattle.span_export.specs.Json.{reprinted}
-use Rattle.span_export.proofs.otlp.lines_of.Given as goal
+use Rattle.span_export.proofs.chrome.lines_of.Given as goal
 
 -- the lines so far mean the values so far, and are compact
 abbrev pub invariant-loop-value : goal.invariant-loop-value

@@ -1,8 +1,8 @@
 use Rattle.std.proofs.Common.{◌∙◌, ◌++◌, ap, arith, map}
 use Rattle.std.proofs.lemmas.List.{take_all}
 use Rattle.serde_json.specs.View.{view}
-use Rattle.span_export.specs.Otlp.{known_attribute}
-use Rattle.span_export.proofs.otlp.write_known.Goals as goal
+use Rattle.span_export.specs.Batch.{known_attribute}
+use Rattle.span_export.proofs.batch.write_known.Goals as goal
 
 pub returns : goal.returns
 returns c =

@@ -2,9 +2,9 @@ use Rattle.std.proofs.Common.{◌∙◌, ◌++◌, ap, arith, map, sym}
 use Rattle.std.proofs.lemmas.List.{take_all}
 use Rattle.serde_json.specs.View.{view}
 use Rattle.span_export.proofs.Put.{fused}
-use Rattle.span_export.specs.Otlp.{attribute_of}
+use Rattle.span_export.specs.Attribute.{attribute_of}
 use Rattle.span_times.specs.Field.{field_said}
-use Rattle.span_export.proofs.otlp.write_attributes.Goals as goal
+use Rattle.span_export.proofs.attribute.write_attributes.Goals as goal
 
 pub returns : goal.returns
 returns c =

@@ -1,0 +1,75 @@
+//! Attributes of OpenTelemetry: what is known by a name.
+ghost use Rattle.std.specs.Prelude.{◌≡◌, ◌++◌, IfOk, OnOk, codes, map};
+ghost use Rattle.serde_json.specs.View.{view};
+ghost use Rattle.span_export.specs.Attribute.{attribute_of, attributes_of};
+ghost use Rattle.span_export.specs.Otlp.{event_known};
+ghost use Rattle.span_export.specs.Site.{given_said, named_so};
+ghost use Rattle.span_export.specs.private.Own.{own_attribute};
+ghost use Rattle.span_times.specs.Field.Said.{Words};
+ghost use Rattle.span_times.specs.Field.{field_said};
+
+use crate::given::is_given;
+use crate::site::Name;
+use crate::value::typed_value;
+use serde_json::{Value, json};
+use span_times::OwnedField;
+use std::alloc::{AllocError, Global};
+
+/// The attributes of an event: its level and its target, unless it was given fields with these
+/// names, and what it was given.
+pub(crate) fn event_attributes(alloc: Global, name: Name<'_>) -> Result<Value, AllocError>
+    ensures { IfOk result (λ pairs. view pairs
+        ≡ attributes_of (event_known (named_so name.entry)) (named_so name.entry).given) }
+{
+    let mut pairs = Vec::new(alloc);
+    write_text(alloc, &mut pairs, name.given, "level", name.level())?;
+    write_text(alloc, &mut pairs, name.given, "target", name.target())?;
+    write_attributes(alloc, &mut pairs, name.given)?;
+    Ok(Value::Array(pairs))
+}
+
+/// Writes a text as an attribute behind these, unless a field with that name was given.
+fn write_text(
+    alloc: Global,
+    pairs: &mut Vec<Value>,
+    given: &[&OwnedField],
+    key: &str,
+    text: &str,
+) -> Result<(), AllocError>
+    ensures { OnOk result (map view pairs.new.items ≡ map view pairs.old.items
+        ++ own_attribute (given_said given.now) (key.now, Words text.now)) }
+{
+    if !is_given(given, key) {
+        pairs.push(text_attribute(alloc, key, text)?)?;
+    }
+    Ok(())
+}
+
+/// Writes fields as attributes behind these.
+fn write_attributes(
+    alloc: Global,
+    pairs: &mut Vec<Value>,
+    given: &[&OwnedField],
+) -> Result<(), AllocError>
+    ensures { OnOk result (map view pairs.new.items
+        ≡ map view pairs.old.items ++ map attribute_of (given_said given.now)) }
+{
+    for field in given {
+        pairs.push(attribute(alloc, field)?)?;
+    }
+    Ok(())
+}
+
+/// A field as an attribute.
+fn attribute(alloc: Global, field: &OwnedField) -> Result<Value, AllocError>
+    ensures { IfOk result (λ pair. view pair ≡ attribute_of (field_said field.now)) }
+{
+    json!(in alloc; {"key": field.name.as_str(), "value": typed_value(alloc, &field.value)?})
+}
+
+/// An attribute whose value is a text.
+pub(crate) fn text_attribute(alloc: Global, key: &str, text: &str) -> Result<Value, AllocError>
+    ensures { IfOk result (λ pair. view pair ≡ attribute_of (key.now, Words text.now)) }
+{
+    json!(in alloc; {"key": key, "value": {"stringValue": text}})
+}
