@@ -284,10 +284,14 @@ const INNER: &str = "{\"resourceSpans\":[{\
 \"resource\":{\"attributes\":[{\"key\":\"service.name\",\"value\":{\"stringValue\":\"shop\"}}]},\
 \"scopeSpans\":[{\"spans\":[{\
 \"attributes\":[{\"key\":\"level\",\"value\":{\"stringValue\":\"DEBUG\"}},\
-{\"key\":\"target\",\"value\":{\"stringValue\":\"app::net\"}}],\
+{\"key\":\"target\",\"value\":{\"stringValue\":\"app::net\"}},\
+{\"key\":\"thread.id\",\"value\":{\"intValue\":\"0\"}},\
+{\"key\":\"busy_ns\",\"value\":{\"intValue\":\"3000\"}},\
+{\"key\":\"idle_ns\",\"value\":{\"intValue\":\"2000\"}}],\
 \"endTimeUnixNano\":\"1700000000000008000\",\
 \"events\":[{\"attributes\":[{\"key\":\"level\",\"value\":{\"stringValue\":\"WARN\"}},\
 {\"key\":\"target\",\"value\":{\"stringValue\":\"app\"}},\
+{\"key\":\"thread.id\",\"value\":{\"intValue\":\"0\"}},\
 {\"key\":\"left\",\"value\":{\"intValue\":\"-3\"}}],\
 \"name\":\"<said>\",\"timeUnixNano\":\"1700000000000005000\"}],\
 \"kind\":1,\"links\":[],\"name\":\"inner\",\"parentSpanId\":\"0000000000000001\",\
@@ -299,6 +303,9 @@ const OUTER: &str = "{\"resourceSpans\":[{\
 \"scopeSpans\":[{\"spans\":[{\
 \"attributes\":[{\"key\":\"level\",\"value\":{\"stringValue\":\"INFO\"}},\
 {\"key\":\"target\",\"value\":{\"stringValue\":\"app\"}},\
+{\"key\":\"thread.id\",\"value\":{\"intValue\":\"0\"}},\
+{\"key\":\"busy_ns\",\"value\":{\"intValue\":\"8000\"}},\
+{\"key\":\"idle_ns\",\"value\":{\"intValue\":\"2999\"}},\
 {\"key\":\"id\",\"value\":{\"intValue\":\"7\"}},\
 {\"key\":\"for\",\"value\":{\"stringValue\":\"a \\\"b\\\"\"}}],\
 \"endTimeUnixNano\":\"1700000000000011999\",\"events\":[],\
@@ -354,13 +361,19 @@ const PAIR: &str = "{\"resourceSpans\":[{\
 \"resource\":{\"attributes\":[{\"key\":\"service.name\",\"value\":{\"stringValue\":\"shop\"}}]},\
 \"scopeSpans\":[{\"spans\":[{\
 \"attributes\":[{\"key\":\"level\",\"value\":{\"stringValue\":\"DEBUG\"}},\
-{\"key\":\"target\",\"value\":{\"stringValue\":\"app::net\"}}],\
+{\"key\":\"target\",\"value\":{\"stringValue\":\"app::net\"}},\
+{\"key\":\"thread.id\",\"value\":{\"intValue\":\"0\"}},\
+{\"key\":\"busy_ns\",\"value\":{\"intValue\":\"0\"}},\
+{\"key\":\"idle_ns\",\"value\":{\"intValue\":\"3\"}}],\
 \"endTimeUnixNano\":\"1700000000000000004\",\"events\":[],\
 \"kind\":1,\"links\":[],\"name\":\"inner\",\"parentSpanId\":\"\",\
 \"spanId\":\"0000000000000002\",\"startTimeUnixNano\":\"1700000000000000001\",\"status\":{},\
 \"traceId\":\"000000000000000000000000000000ab\"},{\
 \"attributes\":[{\"key\":\"level\",\"value\":{\"stringValue\":\"INFO\"}},\
-{\"key\":\"target\",\"value\":{\"stringValue\":\"<;\\u0000>\"}}],\
+{\"key\":\"target\",\"value\":{\"stringValue\":\"<;\\u0000>\"}},\
+{\"key\":\"thread.id\",\"value\":{\"intValue\":\"0\"}},\
+{\"key\":\"busy_ns\",\"value\":{\"intValue\":\"0\"}},\
+{\"key\":\"idle_ns\",\"value\":{\"intValue\":\"4\"}}],\
 \"endTimeUnixNano\":\"1700000000000000006\",\"events\":[],\
 \"kind\":1,\"links\":[],\"name\":\"a\\n\\\"\",\"parentSpanId\":\"\",\
 \"spanId\":\"0000000000000003\",\"startTimeUnixNano\":\"1700000000000000002\",\"status\":{},\
@@ -385,6 +398,20 @@ fn spans_in_batches(rt: HostRuntime) -> Result<(), Fail> {
     assert!(rt; all.len() == 1);
     let none = otlp_batches(alloc, &trace, &five_spans()[..4], names(&sites), 3)?;
     assert!(rt; none.is_empty());
+    Ok(())
+}
+
+#[test]
+fn fields_that_the_table_lacks_are_counted(rt: HostRuntime) -> Result<(), Fail> {
+    let alloc = rt.alloc();
+    let sites = sites(alloc)?;
+    let lines = otlp_lines(alloc, &trace_of_shop(alloc)?, &points(), names(&sites))?;
+    assert!(rt; lines.len() == 2);
+    let event = "\"droppedAttributesCount\":1,\"name\":\"<said>\"";
+    assert!(rt; lines[0].as_str().contains(event));
+    let span = "\"droppedAttributesCount\":2,\"endTimeUnixNano\"";
+    assert!(rt; lines[1].as_str().contains(span));
+    assert!(rt; !lines[0].as_str().contains("Count\":0"));
     Ok(())
 }
 
@@ -480,6 +507,9 @@ fn what_a_span_follows_from_is_a_link(rt: HostRuntime) -> Result<(), Fail> {
 /// Each type as OpenTelemetry has it: what fits none is a text.
 const TYPED: &str = "\"attributes\":[\
 {\"key\":\"target\",\"value\":{\"stringValue\":\"app\"}},\
+{\"key\":\"thread.id\",\"value\":{\"intValue\":\"0\"}},\
+{\"key\":\"busy_ns\",\"value\":{\"intValue\":\"0\"}},\
+{\"key\":\"idle_ns\",\"value\":{\"intValue\":\"2\"}},\
 {\"key\":\"level\",\"value\":{\"boolValue\":true}},\
 {\"key\":\"u\",\"value\":{\"stringValue\":\"9223372036854775808\"}},\
 {\"key\":\"v\",\"value\":{\"intValue\":\"9223372036854775807\"}},\

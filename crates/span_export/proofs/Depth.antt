@@ -1,5 +1,6 @@
 -- How deep what is written nests.
-use Rattle.std.proofs.Common.{arith, ◌≤◌, ◌+◌, ℕ, Bool, true, false, List, [], ◌∷◌, ◌++◌, Option, None, Some, codes, decimal, filter_map, if◌then◌else◌, map}
+use Rattle.std.proofs.Common.{arith, ◌≤◌, ◌+◌, ◌-◌, ◌^◌, ◌==◌, min, ℕ, Bool, true, false, List, [], ◌∷◌, ◌++◌, Option, None, Some, codes, decimal, filter_map}
+use Rattle.std.proofs.Common.{if◌then◌else◌, map}
 use Rattle.std.specs.List.{cons_option}
 use Rattle.std.specs.Float.Ieee
 use Rattle.std.specs.Float.{Float, binary64, float_is_finite}
@@ -8,12 +9,13 @@ use Rattle.std.specs.Ordering.{match_ordering}
 use Rattle.std.specs.Prelude.{⊤, pos, unwrap_or}
 use Rattle.std.specs.declared.cmp.Ordering.{Ordering}
 use Rattle.std.specs.declared.cmp.Ordering.TheVariants.{Equal, Greater, Less}
-use Rattle.serde_json.specs.Data.{Data, Members, Num, array, depth, float, items_depth, member, members_depth, no_members, null, number, put, string}
+use Rattle.serde_json.specs.Data.{Data, Members, Num, array, depth, float, items_depth, member, members_depth, no_members, null, number, object, put, string}
 use Rattle.serde_json.specs.View.{items_of}
 use Rattle.span_core.specs.Span.{number_of}
 use Rattle.span_export.specs.Chrome.{Change, args_of, begin_event, begin_of, change_event, changes, end_event, events_at, events_from, events_of, head, instant}
 use Rattle.span_export.specs.Chrome.{is_known, lane_named, micros, naming, own_event, time_in, trace_of, with_fields}
 use Rattle.span_export.specs.Chrome.Change.{Begins, Ends}
+use Rattle.span_export.specs.Dropped.{with_dropped}
 use Rattle.span_export.specs.Entry.{lasting}
 use Rattle.span_export.specs.Json.{members, object_of, whole}
 use Rattle.span_export.specs.Site.{Named, event_named, named_in}
@@ -53,6 +55,16 @@ members_within n (m ∷ ms) h = put_depth m.0 m.1 (members ms) n h.0 (members_wi
 -- an object is one deeper than its members
 pub object_within : (n : ℕ) (ms : List (List ℕ × Data)) → AreWithin n ms → depth (object_of ms) ≤ n + 1
 object_within n ms h = omega (arith, members_within n ms h)
+
+one_put : (b : Bool) (d : Data) (n : ℕ) (ms : Members)
+    → depth d ≤ n → members_depth ms ≤ n → members_depth (if b then ms else put (codes "droppedAttributesCount") d ms) ≤ n
+one_put true d n ms h k = k
+one_put false d n ms h k = put_depth (codes "droppedAttributesCount") d ms n h k
+
+-- an object that may say how many attributes were dropped
+pub dropped_within : (count n : ℕ) (ms : List (List ℕ × Data)) → AreWithin n ms → depth (object (with_dropped count (members ms))) ≤ n + 1
+dropped_within count n ms h =
+    omega (arith, one_put (count == 0) (whole (min count (2 ^ 32 - 1))) n (members ms) (omega arith) (members_within n ms h))
 
 one_more : (n : ℕ) (o : Option Data) (ds : List Data) → IsWithin n o → items_depth (items_of ds) ≤ n → items_depth (items_of (cons_option o ds)) ≤ n
 one_more n None ds h k = k

@@ -9,6 +9,7 @@ mod Entries
 mod Events
 mod Joined
 mod Kept
+mod Lost
 mod Names
 mod Nest
 mod Openings

@@ -1,6 +1,8 @@
 -- Attributes of what is known, one by one.
-use Rattle.std.proofs.Common.{◌≡◌, ◌∙◌, Bool, true, false, List, [], ◌∷◌, ◌++◌, ap, flat_map, if◌then◌else◌, map, not, refl, sym}
-use Rattle.std.proofs.lemmas.List.{map-append}
+use Rattle.std.proofs.Common.{◌≡◌, ◌∙◌, Bool, true, false, List, [], ◌∷◌, ◌++◌, ap, append_assoc, flat_map, if◌then◌else◌, map, not, refl, sym}
+use Rattle.std.proofs.lemmas.List.{append-nil, map-append}
+use Rattle.std.proofs.lemmas.List.Concat.{flat_map-append}
+use Rattle.serde_json.specs.Data.{Data}
 use Rattle.span_export.specs.Attribute.{attribute_of, not_given}
 use Rattle.span_export.specs.Site.{is_given}
 use Rattle.span_export.specs.private.Own.{own_attribute}
@@ -20,3 +22,16 @@ pub known_and_given : (given known : List FieldSaid)
     → flat_map (own_attribute given) known ++ map attribute_of given ≡ map attribute_of (not_given given known ++ given)
 known_and_given given known =
     ap (λ ds. ds ++ map attribute_of given) (own_all given known) ∙ sym (map-append attribute_of (not_given given known) given)
+
+-- three known things, one after the other
+pub three_parts : (a b n : List Data) → (a ++ b) ++ n ≡ a ++ (b ++ (n ++ []))
+three_parts a b n = append_assoc a b n ∙ ap (λ t. a ++ (b ++ t)) (sym (append-nil n))
+
+-- two more known things
+pub two_more : (given known : List FieldSaid) (f g : FieldSaid)
+    → (flat_map (own_attribute given) known ++ own_attribute given f) ++ own_attribute given g
+    ≡ flat_map (own_attribute given) (known ++ f ∷ g ∷ [])
+two_more given known f g =
+    append_assoc (flat_map (own_attribute given) known) (own_attribute given f) (own_attribute given g)
+    ∙ ap (λ t. flat_map (own_attribute given) known ++ (own_attribute given f ++ t)) (sym (append-nil (own_attribute given g)))
+    ∙ sym (flat_map-append (own_attribute given) known (f ∷ g ∷ []))

@@ -5,8 +5,8 @@ use Rattle.std.proofs.Common.{length, map, refl, string_bytes, subst, sym, take,
 use Rattle.std.specs.Float.{float_is_finite}
 use Rattle.std.specs.Fmt.{signed_decimal}
 use Rattle.std.specs.List.{AllByRecursion, cons_option}
-use Rattle.std.specs.Option.{option_to_list}
-use Rattle.std.proofs.lemmas.List.{drop_more, take_more}
+use Rattle.std.specs.Option.{option_map, option_to_list}
+use Rattle.std.proofs.lemmas.List.{drop_more, map-append, take_more}
 use Rattle.serde_json.specs.Data.{Data, array, boolean, depth, float, items_depth, string}
 use Rattle.serde_json.specs.Read.{max_depth}
 use Rattle.serde_json.specs.View.{items_of, view}
@@ -16,12 +16,14 @@ use Rattle.span_core.specs.declared.span.Id.{Id}
 use Rattle.span_times.specs.declared.happening.Happening.TheVariants.{Closed, Entered, Followed, Left, Opened, Recorded, Renamed, Sent}
 use Rattle.span_times.specs.declared.happening.Happening.{Happening}
 use Rattle.span_times.specs.declared.happening.Point.{Point}
-use Rattle.span_export.proofs.Depth.{items_within, joined_within, mapped_within, number_flat, object_within}
+use Rattle.span_export.proofs.Depth.{dropped_within, items_within, joined_within, mapped_within, number_flat, object_within}
 use Rattle.span_export.specs.Attribute.{attribute_of, attributes_of, not_given}
 use Rattle.span_export.specs.Batch.{known_attribute, only, request_under, request_value, resource_attributes, resource_value}
+use Rattle.span_export.specs.Dropped.{dropped_by, missing}
+use Rattle.span_times.specs.Measure.{busy_in, idle_in}
 use Rattle.span_export.specs.Json.{object_of, whole}
 use Rattle.span_export.specs.Otlp.{event_known, event_of, event_value, events_of, has_error, is_in, link_of, link_value, links_of, nanos}
-use Rattle.span_export.specs.Otlp.{since_opening, span_at, span_head, span_id, span_of, span_value, spans_from, status_value, trace_id}
+use Rattle.span_export.specs.Otlp.{since_opening, span_at, span_head, span_id, span_known, span_of, span_value, spans_from, status_value, trace_id}
 use Rattle.span_export.specs.Site.{Named, called, event_named}
 use Rattle.span_export.specs.Value.{number_or, proto_name, typed, typed_data}
 use Rattle.span_export.specs.private.Sent.{IsWithin}
@@ -40,7 +42,7 @@ in_front (Some d) ds = refl
 -- one more point is looked at, and the span that closes there, if one does, is put behind the others
 pub span_more : (trace : Trace) (table : Table)
     (named : ℕ → Named) (all : List Point) (i : ℕ) (d : Point) (old : List Data) (o : Option Data) (whole : List Data)
-    → i < length all → o ≡ span_at trace table named (take i all) (get_or all i d) (get_or all i d).what
+    → i < length all → o ≡ span_at trace table named (take (i + 1) all) (get_or all i d) (get_or all i d).what
     → old ++ spans_from trace table named (take i all) (drop i all) ≡ whole
     → (old ++ option_to_list o) ++ spans_from trace table named (take (i + 1) all) (drop (i + 1) all) ≡ whole
 span_more trace table named all i d old o whole within due so_far =
@@ -48,7 +50,8 @@ span_more trace table named all i d old o whole within due so_far =
     let point = get_or all i d in
     let rest = spans_from trace table named (before ++ point ∷ []) (drop (i + 1) all) in
     let here : option_to_list o ++ rest ≡ spans_from trace table named before (drop i all) =
-    sym (in_front o rest) ∙ ap (λ r. cons_option r rest) due ∙ sym (ap (spans_from trace table named before) (drop_more all i d within)) in
+    sym (in_front o rest) ∙ ap (λ r. cons_option r rest) (due ∙ ap (λ ps. span_at trace table named ps point point.what) (take_more all i d within))
+    ∙ sym (ap (spans_from trace table named before) (drop_more all i d within)) in
     ap (λ b. (old ++ option_to_list o) ++ spans_from trace table named b (drop (i + 1) all)) (take_more all i d within)
     ∙ append_assoc old (option_to_list o) rest ∙ ap (λ ds. old ++ ds) here ∙ so_far
 
@@ -77,18 +80,18 @@ attributes_depth known given = omega (arith, mapped_within 2 attribute_of attrib
 only_depth : (d : Data) (n : ℕ) → depth d ≤ n → depth (only d) ≤ n + 1
 only_depth d n h = omega (arith, h)
 
-event_depth : (trace : Trace) (name : Named) (time : ℕ) → depth (event_value trace name time) ≤ 4
-event_depth trace name time =
-    object_within 3 ((codes "timeUnixNano", nanos trace time)
-    ∷ (codes "name", string (called name)) ∷ (codes "attributes", attributes_of (event_known name) name.given) ∷ [])
-    (omega arith, (omega arith, (attributes_depth (event_known name) name.given, tt)))
+event_depth : (trace : Trace) (table : Table) (name : Named) (p : Point) → depth (event_value trace table name p) ≤ 4
+event_depth trace table name p =
+    dropped_within (missing table p) 3 ((codes "timeUnixNano", nanos trace p.time)
+    ∷ (codes "name", string (called name)) ∷ (codes "attributes", attributes_of (event_known name p.lane.0) name.given) ∷ [])
+    (omega arith, (omega arith, (attributes_depth (event_known name p.lane.0) name.given, tt)))
 
-event_within : (b : Bool) (trace : Trace) (name : Named) (time : ℕ) → IsWithin 4 (if b then Some (event_value trace name time) else None)
-event_within true trace name time = event_depth trace name time
-event_within false trace name time = tt
+event_within : (b : Bool) (trace : Trace) (table : Table) (name : Named) (p : Point) → IsWithin 4 (if b then Some (event_value trace table name p) else None)
+event_within true trace table name p = event_depth trace table name p
+event_within false trace table name p = tt
 
 one_event : (trace : Trace) (table : Table) (id : Id) (p : Point) (what : Happening) → IsWithin 4 (event_of trace table id p what)
-one_event trace table id p (Sent callsite found) = event_within (is_in id found) trace (event_named table p callsite) p.time
+one_event trace table id p (Sent callsite found) = event_within (is_in id found) trace table (event_named table p callsite) p
 one_event trace table id p (Entered x) = tt
 one_event trace table id p (Left x) = tt
 one_event trace table id p (Opened x callsite parent) = tt
@@ -127,18 +130,20 @@ events_depth : (trace : Trace) (table : Table) (id : Id) (since : List Point) �
 events_depth trace table id since =
     omega (arith, items_within 4 (λ p. event_of trace table id p p.what) (λ p. one_event trace table id p p.what) since)
 
-span_depth : (trace : Trace) (table : Table) (name : Named) (span : ClosedSpan) (since : List Point) → depth (span_value trace table name span since) ≤ 6
-span_depth trace table name span since =
-    object_within 5 ((codes "status", status_value (has_error table.sites.now span.id since))
-    ∷ (codes "links", array (items_of (links_of trace span.id since))) ∷ (codes "events", array (items_of (events_of trace table span.id since)))
-    ∷ (codes "attributes", attributes_of (event_known name) name.given) ∷ (codes "name", string (called name)) ∷ span_head trace span) (
-      omega (arith, status_depth (has_error table.sites.now span.id since)),
+span_depth : (trace : Trace) (table : Table) (name : Named) (span : ClosedSpan) (life : List Point) → depth (span_value trace table name span life) ≤ 6
+span_depth trace table name span life =
+    let x = number_of span.id in
+    let known = span_known name span.opening.lane.0 (busy_in life x) (idle_in life x) in
+    dropped_within (dropped_by table x life) 5 ((codes "status", status_value (has_error table.sites.now span.id life))
+    ∷ (codes "links", array (items_of (links_of trace span.id life))) ∷ (codes "events", array (items_of (events_of trace table span.id life)))
+    ∷ (codes "attributes", attributes_of known name.given) ∷ (codes "name", string (called name)) ∷ span_head trace span) (
+      omega (arith, status_depth (has_error table.sites.now span.id life)),
       (
-        omega (arith, links_depth trace span.id since),
+        omega (arith, links_depth trace span.id life),
         (
-          events_depth trace table span.id since,
+          events_depth trace table span.id life,
           (
-            omega (arith, attributes_depth (event_known name) name.given),
+            omega (arith, attributes_depth known name.given),
             (omega arith, (omega arith, (omega arith, (omega arith, (omega arith, (omega arith, (omega arith, tt))))))),
           ),
         ),
@@ -182,7 +187,7 @@ closed_depth : (trace : Trace) (table : Table) (name : Named) (id : Id) (close :
     → IsWithin 6 (span_of trace table name id close since)
 closed_depth trace table name id close [] = tt
 closed_depth trace table name id close (opening ∷ since) =
-    let span : ClosedSpan = record { id = id; opening = opening; close = close } in span_depth trace table name span since
+    let span : ClosedSpan = record { id = id; opening = opening; close = close } in span_depth trace table name span (opening ∷ since)
 
 point_depth : (trace : Trace) (table : Table) (named : ℕ → Named) (before : List Point) (p : Point) (what : Happening)
     → IsWithin 6 (span_at trace table named before p what)
@@ -197,9 +202,9 @@ point_depth trace table named before p (Renamed x other) = tt
 
 -- a span is flat enough for a request
 pub due_depth : (trace : Trace) (table : Table) (named : ℕ → Named) (all : List Point) (i : ℕ) (d : Point) (o : Option Data)
-    → o ≡ span_at trace table named (take i all) (get_or all i d) (get_or all i d).what → IsWithin 6 o
+    → o ≡ span_at trace table named (take (i + 1) all) (get_or all i d) (get_or all i d).what → IsWithin 6 o
 due_depth trace table named all i d o e =
-    subst (IsWithin 6) (sym e) (point_depth trace table named (take i all) (get_or all i d) (get_or all i d).what)
+    subst (IsWithin 6) (sym e) (point_depth trace table named (take (i + 1) all) (get_or all i d) (get_or all i d).what)
 
 pub values_depth : (vs : List Value) → AllByRecursion (λ d. depth d ≤ 127) (map view vs) → AllByRecursion (λ v. depth (view v) ≤ max_depth) vs
 values_depth [] h = tt

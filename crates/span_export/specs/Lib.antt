@@ -1,6 +1,7 @@
 pub mod Attribute
 pub mod Batch
 pub mod Chrome
+pub mod Dropped
 pub mod Entry
 pub mod Escape
 pub mod Folded

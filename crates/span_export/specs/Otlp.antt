@@ -1,25 +1,26 @@
 -- Points as OpenTelemetry's spans, in its JSON.
-use Rattle.std.specs.Prelude.{◌+◌, ◌==◌, ◌&&◌, ℕ, Bool, false, if◌then◌else◌, List, [], ◌∷◌, ◌++◌, Option, None, Some, codes, decimal, filter_map, map}
+use Rattle.std.specs.Prelude.{◌≡◌, ◌+◌, ◌==◌, ◌&&◌, ℕ, Bool, false, if◌then◌else◌, List, [], ◌∷◌, ◌++◌, Option, None, Some, codes, decimal, filter_map, map}
 use Rattle.std.specs.Int.{to_be_bytes, w128, w64}
 use Rattle.std.specs.List.{cons_option, list_any}
 use Rattle.std.specs.Option.{option_map_or}
 use Rattle.hex.specs.Hex.{encode_lower}
-use Rattle.serde_json.specs.Data.{Data, array, string}
+use Rattle.serde_json.specs.Data.{Data, array, object, string}
 use Rattle.serde_json.specs.View.{items_of}
 use Rattle.span_core.specs.Level.{level_number}
 use Rattle.span_core.specs.Span.{number_of}
 use Rattle.span_core.specs.declared.span.Id.{Id}
-use Rattle.span_times.specs.Field.Said.{Words}
+use Rattle.span_times.specs.Field.Said.{Whole, Words}
 use Rattle.span_times.specs.Field.{FieldSaid}
-use Rattle.span_times.specs.Measure.{capped, opens}
+use Rattle.span_times.specs.Measure.{busy_in, capped, idle_in, opens}
 use Rattle.span_times.specs.declared.happening.Happening.TheVariants.{Closed, Followed, Opened, Sent}
 use Rattle.span_times.specs.declared.happening.Happening.{Happening}
 use Rattle.span_times.specs.declared.happening.Point.{Point}
 use Rattle.span_times.specs.declared.kept.Table.{Table}
 use Rattle.span_export.specs.Attribute.{attributes_of}
 use Rattle.span_export.specs.Batch.{request_value}
+use Rattle.span_export.specs.Dropped.{dropped_by, missing, with_dropped}
 pub use Rattle.span_export.specs.Json.{AllMean}
-use Rattle.span_export.specs.Json.{object_of, whole}
+use Rattle.span_export.specs.Json.{members, object_of, whole}
 use Rattle.span_export.specs.Site.{Named, called, event_named, leveled, named_in, site_numbered, targeted}
 use Rattle.span_times.specs.declared.site.Site.{Site}
 use Rattle.span_export.specs.declared.batch.Signal.TheVariants.{Spans}
@@ -34,10 +35,16 @@ trace_id trace = encode_lower (to_be_bytes w128 trace.id)
 abbrev pub span_id : Option ℕ → List ℕ
 span_id number = option_map_or (λ n. encode_lower (to_be_bytes w64 n)) number []
 
--- what is known of an event by its callsite
-abbrev pub event_known : Named → List FieldSaid
-event_known site =
-    (codes "level", Words (leveled site)) ∷ (codes "target", Words (targeted site)) ∷ []
+-- what is known of a span or an event of this lane beside what it was given
+abbrev pub event_known : Named → ℕ → List FieldSaid
+event_known site lane =
+    (codes "level", Words (leveled site)) ∷ (codes "target", Words (targeted site))
+    ∷ (codes "thread.id", Whole lane) ∷ []
+
+-- and of a span that was busy and idle for so long
+abbrev pub span_known : Named → ℕ → ℕ → ℕ → List FieldSaid
+span_known site lane busy idle =
+    event_known site lane ++ (codes "busy_ns", Whole busy) ∷ (codes "idle_ns", Whole idle) ∷ []
 
 -- a time of points as nanoseconds since 1970, which are a text
 abbrev pub nanos : Trace → ℕ → Data
@@ -47,16 +54,18 @@ nanos trace time = string (decimal (capped (trace.began + time)))
 abbrev pub is_in : Id → Option Id → Bool
 is_in id found = option_map_or (λ span. number_of span == number_of id) found false
 
--- an event of a span at a time
-abbrev pub event_value : Trace → Named → ℕ → Data
-event_value trace site time =
-    object_of ((codes "timeUnixNano", nanos trace time) ∷ (codes "name", string (called site))
-    ∷ (codes "attributes", attributes_of (event_known site) site.given) ∷ [])
+-- an event of a span
+abbrev pub event_value : Trace → Table → Named → Point → Data
+event_value trace table site p =
+    object (with_dropped (missing table p) (members ((codes "timeUnixNano", nanos trace p.time)
+    ∷ (codes "name", string (called site))
+    ∷ (codes "attributes", attributes_of (event_known site p.lane.0) site.given) ∷ [])))
 
 -- the event of a point, if it is an event of this span
 abbrev pub event_of : Trace → Table → Id → Point → Happening → Option Data
 event_of trace table id p (Sent callsite found) =
-    if is_in id found then Some (event_value trace (event_named table p callsite) p.time) else None
+    if is_in id found then Some (event_value trace table (event_named table p callsite) p)
+    else None
 event_of trace table id p other = None
 
 -- the events of a span among these points
@@ -111,14 +120,17 @@ span_head trace span =
     ∷ (codes "kind", whole 1) ∷ (codes "startTimeUnixNano", nanos trace span.opening.time)
     ∷ (codes "endTimeUnixNano", nanos trace span.close.time) ∷ []
 
--- a span that closed, of which these are the points since its opening
+-- a span that closed, of which these are the points from its opening to its close
 abbrev pub span_value : Trace → Table → Named → ClosedSpan → List Point → Data
-span_value trace table site span since =
-    object_of ((codes "status", status_value (has_error table.sites.now span.id since))
-    ∷ (codes "links", array (items_of (links_of trace span.id since)))
-    ∷ (codes "events", array (items_of (events_of trace table span.id since)))
-    ∷ (codes "attributes", attributes_of (event_known site) site.given) ∷ (codes "name", string (called site))
-    ∷ span_head trace span)
+span_value trace table site span life =
+    let x = number_of span.id in
+    let known = span_known site span.opening.lane.0 (busy_in life x) (idle_in life x) in
+    object (with_dropped (dropped_by table x life)
+    (members ((codes "status", status_value (has_error table.sites.now span.id life))
+    ∷ (codes "links", array (items_of (links_of trace span.id life)))
+    ∷ (codes "events", array (items_of (events_of trace table span.id life)))
+    ∷ (codes "attributes", attributes_of known site.given)
+    ∷ (codes "name", string (called site)) ∷ span_head trace span)))
 
 -- what was found, or this point and those behind it where it opens the span
 abbrev pub found_or : ℕ → Point → List Point → List Point → List Point
@@ -130,25 +142,25 @@ abbrev pub since_opening : ℕ → List Point → List Point
 since_opening x [] = []
 since_opening x (p ∷ ps) = found_or x p ps (since_opening x ps)
 
--- the span that closes at this point, if its opening is among those before it, of which these are
--- the points since
+-- the span that closes at this point, if these are the points from its opening up to there
 abbrev pub span_of : Trace → Table → Named → Id → Point → List Point → Option Data
 span_of trace table site id close [] = None
 span_of trace table site id close (opening ∷ since) =
     let span : ClosedSpan = record { id = id; opening = opening; close = close } in
-    Some (span_value trace table site span since)
+    Some (span_value trace table site span (opening ∷ since))
 
--- the span that closes at a point behind these, if one does, by what spans are called
+-- the span that closes at this point, the last of these, if one does that one of these opens, by
+-- what spans are called
 abbrev pub span_at : Trace → Table → (ℕ → Named) → List Point → Point → Happening → Option Data
-span_at trace table named before p (Closed id) =
-    span_of trace table (named (number_of id)) id p (since_opening (number_of id) before)
-span_at trace table named before p other = None
+span_at trace table named ps p (Closed id) =
+    span_of trace table (named (number_of id)) id p (since_opening (number_of id) ps)
+span_at trace table named ps p other = None
 
 -- the spans that close at these points, behind those before them
 abbrev pub spans_from : Trace → Table → (ℕ → Named) → List Point → List Point → List Data
 spans_from trace table named before [] = []
 spans_from trace table named before (p ∷ rest) =
-    cons_option (span_at trace table named before p p.what)
+    cons_option (span_at trace table named (before ++ p ∷ []) p p.what)
     (spans_from trace table named (before ++ p ∷ []) rest)
 
 -- the spans that close, in the order of the closes, with this table

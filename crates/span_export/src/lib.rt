@@ -8,6 +8,7 @@
 mod attribute;
 mod batch;
 mod chrome;
+mod dropped;
 mod entry;
 mod escape;
 mod folded;

@@ -13,14 +13,15 @@ ghost use Rattle.span_export.specs.Site.{event_named, named_by, named_so};
 ghost use Rattle.span_export.specs.declared.batch.Signal.TheVariants as signal;
 ghost use Rattle.span_export.specs.private.Sent.{AreSent};
 
-use crate::attribute::event_attributes;
+use crate::attribute::{event_attributes, span_attributes};
 use crate::batch::{Batches, Plan, Signal};
+use crate::dropped::{dropped_by, missing, put_dropped};
 use crate::given::latest_given;
 use crate::site::{Name, Spans, find_site};
 use crate::trace_parent::TraceParent;
 use serde_json::{Map, Value, json, put};
 use span_core::{Id, Level};
-use span_times::{Happening, Point, Site, Table};
+use span_times::{Happening, Point, Site, Table, busy_time, idle_time};
 use std::alloc::{AllocError, Global};
 
 /// What OpenTelemetry asks for of a trace beside its points.
@@ -116,29 +117,30 @@ fn batches(
 {
     let mut batches = Batches::new(alloc);
     for (place, point) in points.iter().enumerate() {
-        let span = span_at(alloc, plan.trace, table, spans, &points[..place], point)?;
+        let span = span_at(alloc, plan.trace, table, spans, &points[..=place], point)?;
         batches.add(alloc, plan, span)?;
     }
     Ok(batches)
 }
 
-/// The span that closes at a point behind these, if one does that one of these opens.
+/// The span that closes at this point, the last of these, if one does that one of these opens.
 fn span_at(
     alloc: Global,
     trace: &Trace,
     table: Table<'_>,
     spans: &Spans<'_>,
-    before: &[Point],
+    points: &[Point],
     point: &Point,
 ) -> Result<Option<Value>, AllocError>
     ensures { IfOk result (λ span. option_map view span
-        ≡ span_at trace.now table.entry (named_by spans.now) before.now point.now
+        ≡ span_at trace.now table.entry (named_by spans.now) points.now point.now
         point.now.what) }
 {
     let Happening::Closed(id) = point.what else {
         return Ok(None);
     };
-    let Some((opening, since)) = since_opening(before, id).split_first() else {
+    let life = since_opening(points, id);
+    let Some(opening) = life.first() else {
         return Ok(None);
     };
     let name = spans.name(id);
@@ -147,7 +149,7 @@ fn span_at(
         opening: *opening,
         close: *point,
     };
-    Ok(Some(span(alloc, trace, table, name, closed, since)?))
+    Ok(Some(span(alloc, trace, table, name, closed, life)?))
 }
 
 /// The points from the last on that opens a span; none where none does.
@@ -170,33 +172,31 @@ pub(crate) struct Closed {
     close: Point,
 }
 
-/// A span, of which these are the points since its opening.
+/// A span, of which these are the points from its opening to its close.
 fn span(
     alloc: Global,
     trace: &Trace,
     table: Table<'_>,
     name: Name<'_>,
     closed: Closed,
-    since: &[Point],
+    life: &[Point],
 ) -> Result<Value, AllocError>
     ensures { IfOk result (λ span. view span ≡ span_value trace.now table.entry
-        (named_so name.entry) closed since.now) }
+        (named_so name.entry) closed life.now) }
 {
     let mut members = span_head(alloc, trace, closed)?;
     let text = Value::try_from_str(alloc, name.name())?;
     put(&mut members, alloc, "name", text)?;
-    put(
-        &mut members,
-        alloc,
-        "attributes",
-        event_attributes(alloc, name)?,
-    )?;
-    let events = Value::Array(events(alloc, trace, table, closed.id, since)?);
+    let (busy, idle) = (busy_time(life, closed.id), idle_time(life, closed.id));
+    let attributes = span_attributes(alloc, name, closed.opening.lane, busy, idle)?;
+    put(&mut members, alloc, "attributes", attributes)?;
+    let events = Value::Array(events(alloc, trace, table, closed.id, life)?);
     put(&mut members, alloc, "events", events)?;
-    let links = Value::Array(links(alloc, trace, closed.id, since)?);
+    let links = Value::Array(links(alloc, trace, closed.id, life)?);
     put(&mut members, alloc, "links", links)?;
-    let failed = has_error(table.sites, since, closed.id);
+    let failed = has_error(table.sites, life, closed.id);
     put(&mut members, alloc, "status", status(alloc, failed)?)?;
+    put_dropped(&mut members, alloc, dropped_by(table, closed.id, life))?;
     Ok(Value::Object(members))
 }
 
@@ -355,18 +355,23 @@ fn event(
     callsite: u64,
 ) -> Result<Value, AllocError>
     ensures { IfOk result (λ event. view event
-        ≡ event_value trace.now (event_named table.entry point.now callsite) point.now.time) }
+        ≡ event_value trace.now table.entry (event_named table.entry point.now callsite)
+        point.now) }
 {
     let given = latest_given(alloc, point.fields_in(table.fields))?;
     let name = Name {
         site: find_site(table.sites, callsite),
         given: &given,
     };
-    json!(in alloc; {
-        "timeUnixNano": nanos(alloc, trace, point.time)?,
-        "name": name.name(),
-        "attributes": event_attributes(alloc, name)?
-    })
+    let mut members = Map::new(alloc);
+    let attributes = event_attributes(alloc, name, point.lane)?;
+    put(&mut members, alloc, "attributes", attributes)?;
+    let text = Value::try_from_str(alloc, name.name())?;
+    put(&mut members, alloc, "name", text)?;
+    let time = nanos(alloc, trace, point.time)?;
+    put(&mut members, alloc, "timeUnixNano", time)?;
+    put_dropped(&mut members, alloc, missing(table, point))?;
+    Ok(Value::Object(members))
 }
 
 /// The number of a trace as 32 hex digits.

@@ -59,7 +59,7 @@ pub(crate) fn typed_value(alloc: Global, value: &OwnedValue) -> Result<Value, Al
 }
 
 /// A number without a sign as OpenTelemetry has it: an integer, if it is below 2^63.
-fn whole(alloc: Global, number: u64) -> Result<Value, AllocError>
+pub(crate) fn whole(alloc: Global, number: u64) -> Result<Value, AllocError>
     ensures { IfOk result (λ made. view made ≡ whole_data number) }
 {
     let text = Value::String(format!(in alloc; "{number}")?);
