@@ -1,7 +1,8 @@
 -- What is known of a span by its values, directive by directive.
-use Rattle.std.proofs.Common.{◌≡◌, ◌∙◌, ◌++◌, ◌+◌, ◌<◌, ℕ, Bool, true, false, List, [], ◌∷◌, ap, cond, drop, get_or, length, refl, sym, take, take-append-drop}
+use Rattle.std.proofs.Common.{◌≡◌, ◌∙◌, ◌++◌, ◌+◌, ◌<◌, ◌≤◌, ℕ, Bool, true, false, List, [], ◌∷◌, ap, arith, cond, drop, get_or, length, refl, sym, take}
+use Rattle.std.proofs.Common.{take-append-drop}
 use Rattle.std.proofs.lemmas.Bool.{cond-false, cond-true}
-use Rattle.std.proofs.lemmas.List.{take_more}
+use Rattle.std.proofs.lemmas.List.{take_all, take_more}
 use Rattle.std.specs.List.{filter}
 use Rattle.std.specs.Prelude.{map}
 use Rattle.span_core.specs.declared.metadata.Metadata.{Metadata}
@@ -50,3 +51,9 @@ module _ (id : Id) (m : Metadata) (values : Values) where
   further ds i d l e =
       ap (λ es. met es id m values) (take_more ds i d l) ∙ met_append (take i ds) (get_or ds i d ∷ [])
       ∙ ap (λ x. met (take i ds) id m values ++ met (x ∷ []) id m values) (sym e)
+
+  -- behind the last directive all is known
+  pub all_met : (ds es : List FieldDirective) (i : ℕ) → length ds ≤ i → ds ≡ es → length (met es id m values) ≤ length (met (take i ds) id m values)
+  all_met ds es i l e =
+      let whole : take i ds ≡ es = take_all i ds l ∙ e in
+      omega (arith, ap (λ xs. length (met xs id m values)) whole)

@@ -44,7 +44,8 @@ pub record IsDirective (target name field : List ℕ) (value : ValueMatch) (leve
   pub asked : value_of d ≡ value
   pub most : level_by d ≡ level
 
--- whether a value is the one that is asked for: this number, this truth value, or this text
+-- whether a value is the one that is asked for: this number, given in 64 bits; this truth value; or
+-- this text
 abbrev pub is_value : ValueMatch → FieldValue → Bool
 is_value (asked.Number n) (value.U64 m) = int_eq n (pos m)
 is_value (asked.Number n) (value.I64 m) = int_eq n m
@@ -80,7 +81,7 @@ passes_within ds m = list_any (λ d. names_span m d && passes_level (level_by d)
 abbrev pub passes_somewhere : List FieldDirective → Level → Bool
 passes_somewhere ds l = list_any (λ d. passes_level (level_by d) l) ds
 
--- the most that passes by one of these directives, or by what is at hand
+-- the most that passes by one of these directives, or these levels, whichever lets more by
 abbrev pub most_of : LevelFilter → List FieldDirective → LevelFilter
 most_of most [] = most
 most_of most (d ∷ ds) = most_of (greater most (level_by d)) ds

@@ -1,5 +1,5 @@
 -- What a filter by what spans were given answers, and how it goes on.
-use Rattle.std.specs.Prelude.{◌≡◌, ◌&&◌, ◌||◌, ◌++◌, ℕ, List, [], Bool, true, false, ◌==◌, not, map, take, if◌then◌else◌}
+use Rattle.std.specs.Prelude.{◌≡◌, ◌≤◌, ◌&&◌, ◌||◌, ◌++◌, ℕ, List, [], Bool, true, false, ◌==◌, not, length, IsFalse, IsTrue, map, take, if◌then◌else◌}
 use Rattle.std.specs.Prelude.{Option, None, Some}
 use Rattle.std.specs.List.{filter, list_any}
 use Rattle.span_core.specs.Level.{passes_level}
@@ -40,6 +40,10 @@ directives_of f = f.directives.items
 -- what a filter knows of open spans
 abbrev pub within_of : FieldFilter → List Entry
 within_of f = f.within.items
+
+-- whether a filter failed once for want of memory
+abbrev pub has_failed : FieldFilter → Bool
+has_failed f = f.failed
 
 -- whether a level passes within a span, by what is known
 abbrev pub passes_in : List Entry → Level → ℕ → Bool
@@ -87,15 +91,18 @@ abbrev pub met_shown : List FieldDirective → Id → Option Metadata → Values
 met_shown ds id None values = []
 met_shown ds id (Some m) values = met ds id m values
 
--- a filter notes these, from the first on, as far as it finds memory
+-- a filter notes these, from the first on: all of them, unless it failed for want of memory
 pub record Notes (more : List Entry) (f g : FieldFilter) : Type 0 where
   pub directives : directives_of g ≡ directives_of f
   pub count : ℕ
   pub within : within_of g ≡ within_of f ++ take count more
+  pub whole : IsFalse (has_failed g) → length more ≤ count
+  pub failed : IsTrue (has_failed f) → IsTrue (has_failed g)
 
 -- a filter forgets a span
 pub record Forgets (x : ℕ) (f g : FieldFilter) : Type 0 where
   pub directives : directives_of g ≡ directives_of f
+  pub failed : has_failed g ≡ has_failed f
   pub within : within_of g ≡ filter (λ e. not (span_of e == x)) (within_of f)
 
 -- a filter goes on by a notice: it notes what a new span was given, and what a span that is shown

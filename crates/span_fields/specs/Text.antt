@@ -1,5 +1,5 @@
 -- What the text of a directive says.
-use Rattle.std.specs.Prelude.{◌≡◌, ◌||◌, ⊤, ℕ, List, length, ◌==◌, Bool, if◌then◌else◌, string_bytes, FitsSigned}
+use Rattle.std.specs.Prelude.{◌≡◌, ◌||◌, ◌&&◌, ℕ, List, length, ◌==◌, Bool, not, if◌then◌else◌, string_bytes, FitsSigned}
 use Rattle.std.specs.Prelude.{Option, None, Some, Result, Ok, Err}
 use Rattle.std.specs.Int.{w64}
 use Rattle.std.specs.List.{after_first, before_first, list_any}
@@ -39,7 +39,11 @@ abbrev pub has_mark : List ℕ → Bool
 has_mark s =
     list_any (λ c. (c == 91) || ((c == 123) || ((c == 61) || ((c == 125) || (c == 93))))) s
 
--- the levels, if there are some
+-- whether a part is a name: it isn't empty, and no byte that stands between parts is in it
+abbrev pub is_word : List ℕ → Bool
+is_word s = not (length s == 0) && not (has_mark s)
+
+-- these levels, or that a word names none
 abbrev pub known_level : Option LevelFilter → Result LevelFilter FieldError
 known_level (Some l) = Ok l
 known_level None = Err UnknownLevel
@@ -68,12 +72,12 @@ abbrev pub field_meaning : List ℕ → Result FieldMeaning FieldError
 field_meaning s =
     on_both (cut 91 s) (λ target s. on_both (cut 123 s) (λ name s.
     on_both (cut 61 s) (λ field s. on_both (cut 125 s) (λ value s.
-    if has_mark target || (has_mark name || has_mark field) then Err Misshapen
+    if has_mark target || (not (is_word name) || not (is_word field)) then Err Misshapen
     else with_level
     (λ l. record { target = target; name = name; field = field; value = value; level = l })
     (level_after s)))))
 
--- whether a text is a number of up to 63 bits, with a sign or without
+-- a text is a number from -2^63 to 2^63 - 1, with a sign or without
 pub record IsNumber (s : List ℕ) : Type 0 where
   pub digits : IsNumeral 10 (without_leading_sign s)
   pub fits : FitsSigned w64 (signed_digits_value 10 s)
@@ -93,8 +97,9 @@ pub record Says (m : FieldMeaning) (d : FieldDirective) : Type 0 where
   pub value : AsksFor m.value (value_of d)
   pub level : level_by d ≡ m.level
 
--- the directive of a text was read; or it says nothing for this reason, or memory was refused
+-- the directive of a text was read; or it says nothing for this reason; or memory was refused, and
+-- nothing else is wrong
 abbrev pub Reads : List ℕ → Result FieldDirective FieldError → Type 0
 Reads s (Ok d) = (m : FieldMeaning) × (field_meaning s ≡ Ok m) × Says m d
-Reads s (Err OutOfMemory) = ⊤
+Reads s (Err OutOfMemory) = (e : FieldError) → field_meaning s ≡ Err e → e ≡ OutOfMemory
 Reads s (Err error) = field_meaning s ≡ Err error

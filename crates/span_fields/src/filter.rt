@@ -1,7 +1,7 @@
 //! The filter, and the open spans that it knows of.
-ghost use Rattle.std.specs.Prelude.{◌≡◌, ◌++◌, [], ◌∷◌, OnErr, OnOk};
+ghost use Rattle.std.specs.Prelude.{◌≡◌, ◌++◌, [], ◌∷◌, OnErr, OnOk, false};
 ghost use Rattle.span_core.specs.Span.{number_of};
-ghost use Rattle.span_fields.specs.Filter.{Forgets, GoesOn, Notes, directives_of, field_answers, met, passes_around, passes_in, within_of};
+ghost use Rattle.span_fields.specs.Filter.{Forgets, GoesOn, Notes, directives_of, field_answers, has_failed, met, passes_around, passes_in, within_of};
 ghost use Rattle.span_fields.specs.laws.Filter.{field_laws, field_reloads};
 ghost use Rattle.span_filters.specs.Filter.{settled_answers};
 ghost use Rattle.span_registry.specs.Context.{view_in};
@@ -25,7 +25,7 @@ struct Within {
 ///
 /// Metadata of a span that a directive names pass, too, up to its level, since a span can't be
 /// told by its values before it is open. A span that was given the value once stays so until it
-/// closes. Where memory is refused, it counts as one without the value.
+/// closes. Where memory is refused, it counts as one without the value, and `failed` says so.
 ///
 /// Stands for `tracing_subscriber::filter::EnvFilter` as far as its directives have fields. For
 /// directives without use `span_targets::EnvFilter`, and join both by `or`.
@@ -33,6 +33,7 @@ struct Within {
 pub struct FieldFilter {
     directives: Vec<FieldDirective>,
     within: Vec<Within>,
+    failed: bool,
 }
 
 impl FieldFilter {
@@ -40,11 +41,20 @@ impl FieldFilter {
     pub fn new(alloc: Global) -> FieldFilter
         ensures directives { directives_of result ≡ [] }
         ensures within { within_of result ≡ [] }
+        ensures failed { has_failed result ≡ false }
     {
         FieldFilter {
             directives: Vec::new(alloc),
             within: Vec::new(alloc),
+            failed: false,
         }
+    }
+
+    /// Whether memory was refused once, so that some span counts as one without the value.
+    pub fn failed(&self) -> bool
+        ensures { result ≡ has_failed self.now }
+    {
+        self.failed
     }
 
     /// The filter with one directive more.
@@ -52,6 +62,7 @@ impl FieldFilter {
         ensures ok { OnOk result (directives_of self.new ≡ directives_of self.old ++ directive ∷ []) }
         ensures err { OnErr result (directives_of self.new ≡ directives_of self.old) }
         ensures within { within_of self.new ≡ within_of self.old }
+        ensures failed { has_failed self.new ≡ has_failed self.old }
     {
         self.directives.push(directive)?;
         Ok(())
@@ -69,11 +80,16 @@ impl FieldFilter {
         ensures { Notes (met (directives_of self.old) span meta.now values.now)
             self.old self.new }
     {
-        let FieldFilter { directives, within } = self;
+        let FieldFilter {
+            directives,
+            within,
+            failed,
+        } = self;
         for directive in directives.iter() {
             if directive.is_met(meta, values) {
                 let level = directive.level();
                 if within.push(Within { span, level }).is_err() {
+                    *failed = true;
                     return;
                 }
             }

@@ -1,6 +1,6 @@
 //! Directives, read from texts.
 ghost use Rattle.std.specs.Prelude.{◌≡◌, ◌<◌, IfOk};
-ghost use Rattle.span_fields.specs.Text.{AsksFor, Reads, cut, field_meaning, has_mark, known_level, level_after};
+ghost use Rattle.span_fields.specs.Text.{AsksFor, Reads, cut, field_meaning, has_mark, is_word, known_level, level_after};
 ghost use Rattle.span_fields.specs.private.Read.{ReadsCut, ReadsLevel, ReadsParts};
 ghost use Rattle.span_targets.specs.Text.{level_named};
 
@@ -38,7 +38,14 @@ fn has_mark(text: &str) -> bool
         .any(|byte| matches!(byte, b'[' | b'{' | b'=' | b'}' | b']'))
 }
 
-/// The levels that a text names.
+/// Whether a part is a name: it isn't empty, and no byte that stands between parts is in it.
+fn is_word(text: &str) -> bool
+    ensures { result ≡ is_word text.now }
+{
+    !text.is_empty() && !has_mark(text)
+}
+
+/// The levels that a text names, if it names some.
 fn read_word(text: &str) -> Result<LevelFilter, FieldError>
     ensures { ReadsLevel (known_level (level_named text.now)) result }
 {
@@ -87,7 +94,7 @@ fn read_parts(text: &str) -> Result<Parts<'_>, FieldError>
     let Some((value, behind)) = cut(behind, b'}') else {
         return Err(FieldError::Misshapen);
     };
-    if has_mark(target) || has_mark(name) || has_mark(field) {
+    if has_mark(target) || !is_word(name) || !is_word(field) {
         return Err(FieldError::Misshapen);
     }
     match read_level(behind) {
@@ -118,10 +125,10 @@ fn value_of(alloc: Global, text: &str) -> Result<ValueMatch, AllocError>
 impl FieldDirective {
     /// Reads a directive, as `[job{id=7}]=debug` or `app[job{id=7}]=debug`, of which each level
     /// passes where nothing stands behind the `]`. The value is true or false where the text is
-    /// `true` or `false`; a number where the text is one of up to 63 bits; and else the text.
+    /// `true` or `false`; a number where the text is one from -2^63 to 2^63 - 1; else the text.
     ///
-    /// Refused where a part is missing, where a target, a name or a field has one of `[{=}]`, or
-    /// where the level is none that `LevelFilter` reads.
+    /// Refused where one of `[{=}]` is missing, where a target, a name or a field has one of them,
+    /// where name or field is empty, or where the level is none that `LevelFilter` reads.
     pub fn parse(alloc: Global, text: &str) -> Result<FieldDirective, FieldError>
         ensures { Reads text.now result }
     {

@@ -154,6 +154,7 @@ fn a_value_that_is_recorded_later_counts(rt: HostRuntime) -> Result<(), Fail> {
     let filter = filter_of(alloc, &["web[job{name=pay}]"])?;
     let layer = Recorder::new(alloc).with_filter(filter);
     let stack = record_values(alloc, Registry::new(alloc).with(layer)?)?;
+    assert!(rt; !stack.outer().filter().failed());
     assert!(rt; stack.outer().layer().notices().len() == 4 + 2 + 2);
     Ok(())
 }
@@ -232,6 +233,8 @@ fn texts_that_are_wrong(rt: HostRuntime) -> Result<(), Fail> {
         ("[job{id=7}x]=debug", FieldError::Misshapen),
         ("a=b[job{id=7}]=debug", FieldError::Misshapen),
         ("[j]ob{id=7}]=debug", FieldError::Misshapen),
+        ("[{id=7}]=debug", FieldError::Misshapen),
+        ("[job{=7}]=debug", FieldError::Misshapen),
         ("[job{i}d=7}]=debug", FieldError::Misshapen),
         ("[job{id=7}]=loud", FieldError::UnknownLevel),
         ("[job{id=7}]=info=info", FieldError::UnknownLevel),

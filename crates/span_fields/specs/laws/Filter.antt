@@ -62,11 +62,12 @@ never_enabled true some around e = absurd (cc)
 never_enabled false true around e = absurd (cc)
 never_enabled false false around e = refl
 
--- no directive lets more by than the most of all
+-- the most of all is at least the level at hand
 most_first : (a : LevelFilter) (ds : List FieldDirective) → filter_number a ≤ filter_number (most_of a ds)
 most_first a [] = omega arith
 most_first a (d ∷ ds) = omega (arith, greater_first a (level_by d), most_first (greater a (level_by d)) ds)
 
+-- a level above the most of all passes by no directive
 nowhere_above : (a : LevelFilter) (ds : List FieldDirective) (l : Level)
     → filter_number (most_of a ds) < level_number l → passes_somewhere ds l ≡ false
 nowhere_above a [] l e = refl

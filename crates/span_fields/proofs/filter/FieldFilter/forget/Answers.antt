@@ -8,5 +8,6 @@ use Rattle.span_fields.specs.Filter.{span_of}
 pub returns : goal.returns
 returns c = record {
   directives = refl;
+  failed = refl;
   within = filter_same _ (λ e. not (span_of e == number_of c.args.span)) _ (λ x b q k. search (rules, of_calls)) _ _ c.retain.ensures.filtered;
 }
