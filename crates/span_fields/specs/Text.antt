@@ -87,7 +87,8 @@ pub record IsNumber (s : List ℕ) : Type 0 where
 abbrev pub AsksFor : List ℕ → ValueMatch → Type 0
 AsksFor s (asked.Bool b) = s ≡ flag_text b
 AsksFor s (asked.Number n) = IsNumber s × (n ≡ signed_digits_value 10 s)
-AsksFor s (asked.Text t) = (string_bytes t ≡ s) × ((b : Bool) → ¬ (s ≡ flag_text b)) × ¬ (IsNumber s)
+AsksFor s (asked.Text t) =
+    (string_bytes t ≡ s) × ((b : Bool) → ¬ (s ≡ flag_text b)) × ¬ (IsNumber s)
 
 -- the directive is what was said
 pub record Says (m : FieldMeaning) (d : FieldDirective) : Type 0 where

@@ -59,7 +59,8 @@ impl FieldFilter {
 
     /// The filter with one directive more.
     pub fn add(&mut self, directive: FieldDirective) -> Result<(), AllocError>
-        ensures ok { OnOk result (directives_of self.new ≡ directives_of self.old ++ directive ∷ []) }
+        ensures ok { OnOk result
+            (directives_of self.new ≡ directives_of self.old ++ directive ∷ []) }
         ensures err { OnErr result (directives_of self.new ≡ directives_of self.old) }
         ensures within { within_of self.new ≡ within_of self.old }
         ensures failed { has_failed self.new ≡ has_failed self.old }
