@@ -20,6 +20,10 @@ mod long_list;
 #[cfg(test)]
 mod macros;
 #[cfg(test)]
+mod otlp;
+#[cfg(test)]
+mod point;
+#[cfg(test)]
 mod question;
 #[cfg(test)]
 mod receiver;

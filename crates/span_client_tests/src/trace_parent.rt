@@ -1,5 +1,5 @@
 //! Tests of W3C's text of a span of another program.
-use span_export::TraceParent;
+use span_otlp::TraceParent;
 use std::test::Fail;
 
 /// The example of W3C's page.

@@ -1,25 +1,19 @@
--- How deep what is written nests.
-use Rattle.std.proofs.Common.{arith, ◌≤◌, ◌+◌, ◌-◌, ◌^◌, ◌==◌, min, ℕ, Bool, true, false, List, [], ◌∷◌, ◌++◌, Option, None, Some, codes, decimal, filter_map}
-use Rattle.std.proofs.Common.{if◌then◌else◌, map}
-use Rattle.std.specs.List.{cons_option}
+-- How deep a trace for Perfetto nests.
+use Rattle.std.proofs.Common.{arith, ◌≤◌, ◌+◌, ℕ, Bool, true, false, List, [], ◌∷◌, ◌++◌, Some, None, codes, decimal, if◌then◌else◌, map}
 use Rattle.std.specs.Float.Ieee
 use Rattle.std.specs.Float.{Float, binary64, float_is_finite}
-use Rattle.std.specs.Option.{option_map, option_map_or, option_to_list}
-use Rattle.std.specs.Ordering.{match_ordering}
-use Rattle.std.specs.Prelude.{⊤, pos, unwrap_or}
-use Rattle.std.specs.declared.cmp.Ordering.{Ordering}
-use Rattle.std.specs.declared.cmp.Ordering.TheVariants.{Equal, Greater, Less}
-use Rattle.serde_json.specs.Data.{Data, Members, Num, array, depth, float, items_depth, member, members_depth, no_members, null, number, object, put, string}
+use Rattle.std.specs.Option.{option_map, option_to_list}
+use Rattle.std.specs.Prelude.{pos, unwrap_or}
+use Rattle.serde_json.specs.Data.{Members, Num, array, depth, float, items_depth, members_depth, no_members, null, number, put, string}
 use Rattle.serde_json.specs.View.{items_of}
 use Rattle.span_core.specs.Span.{number_of}
+use Rattle.span_export.proofs.CallerLemmas.{AreWithin, joined_within, mapped_within, number_flat, object_within, put_depth}
 use Rattle.span_export.specs.Chrome.{Change, args_of, begin_event, begin_of, change_event, changes, end_event, events_at, events_from, events_of, head, instant}
 use Rattle.span_export.specs.Chrome.{is_known, lane_named, micros, naming, own_event, time_in, trace_of, with_fields}
 use Rattle.span_export.specs.Chrome.Change.{Begins, Ends}
-use Rattle.span_export.specs.Dropped.{with_dropped}
 use Rattle.span_export.specs.Entry.{lasting}
-use Rattle.span_export.specs.Json.{members, object_of, whole}
+use Rattle.span_export.specs.Json.{object_of, whole}
 use Rattle.span_export.specs.Site.{Named, event_named, named_in}
-use Rattle.span_export.specs.private.Sent.{IsWithin}
 use Rattle.span_export.specs.Value.{value_data}
 use Rattle.span_times.specs.Field.{FieldSaid, Said}
 use Rattle.span_times.specs.Field.Said.{Flag, Real, Signed, Whole, Wide, WideSigned, Words}
@@ -29,65 +23,6 @@ use Rattle.span_times.specs.declared.happening.Happening.TheVariants.{Closed, En
 use Rattle.span_times.specs.declared.happening.Happening.{Happening}
 use Rattle.span_times.specs.declared.happening.Point.{Point}
 use Rattle.span_times.specs.declared.kept.Table.{Table}
-
-one_of_three : (o : Ordering) (a b c : Members) (n : ℕ)
-    → members_depth a ≤ n → members_depth b ≤ n → members_depth c ≤ n → members_depth (match_ordering o a b c) ≤ n
-one_of_three Less a b c n p q r = p
-one_of_three Equal a b c n p q r = q
-one_of_three Greater a b c n p q r = r
-
--- one more member
-put_depth : (k : List ℕ) (d : Data) (ms : Members) (n : ℕ) → depth d ≤ n → members_depth ms ≤ n → members_depth (put k d ms) ≤ n
-put_depth k d no_members n p q = omega arith
-put_depth k d (member l e ms) n p q =
-    one_of_three _
-    (member k d (member l e ms)) (member l d ms) (member l e (put k d ms)) n (omega arith) (omega arith) (omega (arith, put_depth k d ms n p (omega arith)))
-
--- no member is deeper
-abbrev pub AreWithin : ℕ → List (List ℕ × Data) → Type 0
-AreWithin n [] = ⊤
-AreWithin n (m ∷ ms) = (depth m.1 ≤ n) × AreWithin n ms
-
-members_within : (n : ℕ) (ms : List (List ℕ × Data)) → AreWithin n ms → members_depth (members ms) ≤ n
-members_within n [] h = omega arith
-members_within n (m ∷ ms) h = put_depth m.0 m.1 (members ms) n h.0 (members_within n ms h.1)
-
--- an object is one deeper than its members
-pub object_within : (n : ℕ) (ms : List (List ℕ × Data)) → AreWithin n ms → depth (object_of ms) ≤ n + 1
-object_within n ms h = omega (arith, members_within n ms h)
-
-one_put : (b : Bool) (d : Data) (n : ℕ) (ms : Members)
-    → depth d ≤ n → members_depth ms ≤ n → members_depth (if b then ms else put (codes "droppedAttributesCount") d ms) ≤ n
-one_put true d n ms h k = k
-one_put false d n ms h k = put_depth (codes "droppedAttributesCount") d ms n h k
-
--- an object that may say how many attributes were dropped
-pub dropped_within : (count n : ℕ) (ms : List (List ℕ × Data)) → AreWithin n ms → depth (object (with_dropped count (members ms))) ≤ n + 1
-dropped_within count n ms h =
-    omega (arith, one_put (count == 0) (whole (min count (2 ^ 32 - 1))) n (members ms) (omega arith) (members_within n ms h))
-
-one_more : (n : ℕ) (o : Option Data) (ds : List Data) → IsWithin n o → items_depth (items_of ds) ≤ n → items_depth (items_of (cons_option o ds)) ≤ n
-one_more n None ds h k = k
-one_more n (Some d) ds h k = omega (arith, h)
-
--- those that there are
-pub items_within : {A : Type 0} (n : ℕ) (f : A → Option Data) → ((x : A) → IsWithin n (f x)) → (xs : List A) → items_depth (items_of (filter_map f xs)) ≤ n
-items_within n f h [] = omega arith
-items_within n f h (x ∷ xs) = one_more n (f x) (filter_map f xs) (h x) (items_within n f h xs)
-
--- what stands before others and behind
-pub joined_within : (n : ℕ) (ds es : List Data) → items_depth (items_of ds) ≤ n → items_depth (items_of es) ≤ n → items_depth (items_of (ds ++ es)) ≤ n
-joined_within n [] es h k = k
-joined_within n (d ∷ ds) es h k = omega (arith, joined_within n ds es (omega (arith, h)) k)
-
--- each is so for something
-pub mapped_within : {A : Type 0} (n : ℕ) (f : A → Data) → ((x : A) → depth (f x) ≤ n) → (xs : List A) → items_depth (items_of (map f xs)) ≤ n
-mapped_within n f h [] = omega arith
-mapped_within n f h (x ∷ xs) = omega (arith, h x, mapped_within n f h xs)
-
-pub number_flat : (b : Bool) (x : Num) (words : List ℕ) → depth (option_map_or number (if b then Some x else None) (string words)) ≤ 0
-number_flat true x words = omega arith
-number_flat false x words = omega arith
 
 -- a value is flat
 value_flat : (s : Said) → depth (value_data s) ≤ 0

@@ -1,25 +1,17 @@
 mod AllTime
-mod Batches
-mod BigEndian
 mod Boxes
+pub mod CallerLemmas
 mod Depth
-mod Digits
 mod Ended
 mod Entries
 mod Events
 mod Joined
-mod Kept
-mod Lost
 mod Names
 mod Nest
-mod Openings
-mod Own
-mod Parents
 mod Phases
 mod Places
 mod Put
 mod Replaced
-mod Requests
 mod Style
 mod Summing
 mod Sums

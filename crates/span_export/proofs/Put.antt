@@ -39,11 +39,6 @@ pub put_end : (f : FieldSaid) (gs : List FieldSaid) (i : ℕ)
     → length gs ≤ i → put_field f gs ≡ take i gs ++ put_field f (drop i gs) → put_field f gs ≡ gs ++ f ∷ []
 put_end f gs i past so_far = so_far ∙ ap (λ hs. hs ++ put_field f (drop i gs)) (take_all i gs past) ∙ ap (λ hs. gs ++ put_field f hs) (drop_all i gs past)
 
--- two maps are one
-pub fused : {A B C : Type 0} (f : B → C) (g : A → B) (xs : List A) → map f (map g xs) ≡ map (λ x. f (g x)) xs
-fused f g [] = refl
-fused f g (x ∷ xs) = ap (λ ys. f (g x) ∷ ys) (fused f g xs)
-
 pub any_fused : {A B : Type 0} (p : B → Bool) (g : A → B) (xs : List A) → list_any p (map g xs) ≡ list_any (λ x. p (g x)) xs
 any_fused p g [] = refl
 any_fused p g (x ∷ xs) = ap (λ b. p (g x) || b) (any_fused p g xs)

@@ -1,7 +1,4 @@
-pub mod Attribute
-pub mod Batch
 pub mod Chrome
-pub mod Dropped
 pub mod Entry
 pub mod Escape
 pub mod Folded
@@ -9,13 +6,10 @@ pub mod Frame
 pub mod Given
 pub mod Json
 pub mod Moment
-pub mod Otlp
 pub mod Page
 pub mod Picture
 pub mod Scale
 pub mod Site
 pub mod Sums
-pub mod TraceParent
 pub mod Value
 pub mod When
-pub mod private

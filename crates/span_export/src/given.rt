@@ -11,13 +11,10 @@ use span_times::{OwnedField, OwnedValue};
 use std::alloc::{AllocError, Global};
 
 /// Fields of different names.
-pub(crate) type Given<'a> = Vec<&'a OwnedField>;
+pub type Given<'a> = Vec<&'a OwnedField>;
 
 /// These fields, of two of one name the later one.
-pub(crate) fn latest_given<'a>(
-    alloc: Global,
-    fields: &'a [OwnedField],
-) -> Result<Given<'a>, AllocError>
+pub fn latest_given<'a>(alloc: Global, fields: &'a [OwnedField]) -> Result<Given<'a>, AllocError>
     ensures { IfOk result
         (λ given. given_said given.items ≡ put_fields (kept_in fields.now) []) }
 {
@@ -53,7 +50,7 @@ fn put<'a>(given: &mut Given<'a>, field: &'a OwnedField) -> Result<(), AllocErro
 }
 
 /// Whether a field of this name is among these.
-pub(crate) fn is_given(given: &[&OwnedField], name: &str) -> bool
+pub fn is_given(given: &[&OwnedField], name: &str) -> bool
     ensures { result ≡ is_given name.now (given_said given.now) }
 {
     for field in given {

@@ -1,7 +1,6 @@
 //! Laws of exports. The functions make no call: what they ensure is the law.
 ghost use Rattle.span_export.specs.Chrome.{TracesCountAll, TracesNest};
 ghost use Rattle.span_export.specs.Folded.{LinesHaveAllTime};
-ghost use Rattle.span_export.specs.TraceParent.{ParentsAreReadAgain, TextsAreOfOne};
 
 /// A trace has as many beginnings and ends of spans' durations as spans opened and closed, and as
 /// many instants as there were events.
@@ -19,11 +18,4 @@ pub fn lines_have_all_time()
 /// after any points are those of the spans that the lane is in.
 pub fn a_trace_nests()
     ensures { TracesNest }
-{}
-
-/// A text is of one parent at most, and what is written of a parent is read as that one, if neither
-/// of its numbers is 0: whatever `TraceParent::from_str` answers is it.
-pub fn parents_are_read_again()
-    ensures one { TextsAreOfOne }
-    ensures again { ParentsAreReadAgain }
 {}

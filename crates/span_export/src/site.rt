@@ -13,14 +13,16 @@ use std::collections::BTreeMap;
 
 /// What a span or an event is called, if that is known, and what it was given.
 #[derive(Clone, Copy)]
-pub(crate) struct Name<'a> {
-    pub(crate) site: Option<&'a Site>,
-    pub(crate) given: &'a [&'a OwnedField],
+pub struct Name<'a> {
+    /// Its callsite, if that is known.
+    pub site: Option<&'a Site>,
+    /// What it was given, of each name the latest.
+    pub given: &'a [&'a OwnedField],
 }
 
 impl<'a> Name<'a> {
     /// The name of its callsite, and `?` where that isn't known.
-    pub(crate) fn name(&self) -> &'a str
+    pub fn name(&self) -> &'a str
         ensures { result.now ≡ called (named_so self.now) }
     {
         match self.site {
@@ -30,7 +32,7 @@ impl<'a> Name<'a> {
     }
 
     /// The target, and `?` where it isn't known.
-    pub(crate) fn target(&self) -> &'a str
+    pub fn target(&self) -> &'a str
         ensures { result.now ≡ targeted (named_so self.now) }
     {
         match self.site {
@@ -40,7 +42,7 @@ impl<'a> Name<'a> {
     }
 
     /// The name of the level, and `?` where it isn't known.
-    pub(crate) fn level(&self) -> &'a str
+    pub fn level(&self) -> &'a str
         ensures { result.now ≡ leveled (named_so self.now) }
     {
         match self.site {
@@ -51,7 +53,7 @@ impl<'a> Name<'a> {
 }
 
 /// The site with this number.
-pub(crate) fn find_site(sites: &[Site], callsite: u64) -> Option<&Site>
+pub fn find_site(sites: &[Site], callsite: u64) -> Option<&Site>
     ensures { option_copied result ≡ site_numbered sites.now callsite }
 {
     sites.iter().find(|site| site.callsite == callsite)
@@ -59,7 +61,7 @@ pub(crate) fn find_site(sites: &[Site], callsite: u64) -> Option<&Site>
 
 /// What spans are called, and what they were given, by their numbers.
 #[derive(Drop)]
-pub(crate) struct Spans<'a> {
+pub struct Spans<'a> {
     sites: &'a [Site],
     openers: BTreeMap<u64, u64>,
     given: BTreeMap<u64, Given<'a>>,
@@ -68,11 +70,7 @@ pub(crate) struct Spans<'a> {
 impl<'a> Spans<'a> {
     /// What all spans of these points are called and were given: by the last point that opens each,
     /// and by those that record values of it since.
-    pub(crate) fn of(
-        alloc: Global,
-        points: &[Point],
-        table: Table<'a>,
-    ) -> Result<Spans<'a>, AllocError>
+    pub fn of(alloc: Global, points: &[Point], table: Table<'a>) -> Result<Spans<'a>, AllocError>
         ensures { IfOk result (λ spans. KnowsSpans spans table.entry points.now) }
     {
         let mut spans = Spans {
@@ -147,7 +145,7 @@ impl<'a> Spans<'a> {
     }
 
     /// What a span is called, and what it was given.
-    pub(crate) fn name(&self, id: Id) -> Name<'_>
+    pub fn name(&self, id: Id) -> Name<'_>
         ensures { named_so result ≡ named_by self.now (number_of id) }
     {
         Name {

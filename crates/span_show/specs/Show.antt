@@ -8,10 +8,10 @@ use Rattle.span_dispatch.specs.declared.request.Request.{Request}
 use Rattle.span_export.specs.Chrome.{trace_of}
 use Rattle.span_export.specs.Folded.{folded}
 use Rattle.span_export.specs.Json.{AreCompact, Means}
-use Rattle.span_export.specs.Otlp.{AllMean, requests_of}
+use Rattle.span_otlp.specs.Otlp.{AllMean, requests_of}
 use Rattle.span_export.specs.Page.{IsPage}
 use Rattle.span_export.specs.Picture.{IsPicture}
-use Rattle.span_export.specs.declared.otlp.Trace.{Trace}
+use Rattle.span_otlp.specs.declared.otlp.Trace.{Trace}
 use Rattle.span_fmt.specs.Forms.{known_by_form, lines_give, tree_gives}
 use Rattle.span_fmt.specs.Known.{nothing_known}
 use Rattle.span_fmt.specs.declared.forms.LinesForm.{LinesForm}

@@ -4,7 +4,8 @@ ghost use Rattle.span_show.specs.Show.{IsExport, line_of};
 
 use crate::fault::ShowFault;
 use crate::format::Export;
-use span_export::{Trace, chrome_text, folded_text, otlp_lines, timeline_page, timeline_svg};
+use span_export::{chrome_text, folded_text, timeline_page, timeline_svg};
+use span_otlp::{Trace, otlp_lines};
 use span_times::{Point, Table};
 use std::alloc::{AllocError, Global};
 

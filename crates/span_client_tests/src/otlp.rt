@@ -1,0 +1,348 @@
+//! Tests of exports to OpenTelemetry, which were worked out by hand.
+use crate::point::{
+    at, field, fields, hostile_fields, hostile_points, job, names, points, site, sites, with,
+};
+use span_core::{Id, Level};
+use span_otlp::{Trace, TraceParent, otlp_batches, otlp_lines};
+use span_times::{Happening, OwnedField, OwnedValue, Point, Table};
+use std::alloc::Global;
+use std::test::Fail;
+
+const INNER: &str = "{\"resourceSpans\":[{\
+\"resource\":{\"attributes\":[{\"key\":\"service.name\",\"value\":{\"stringValue\":\"shop\"}}]},\
+\"scopeSpans\":[{\"spans\":[{\
+\"attributes\":[{\"key\":\"level\",\"value\":{\"stringValue\":\"DEBUG\"}},\
+{\"key\":\"target\",\"value\":{\"stringValue\":\"app::net\"}},\
+{\"key\":\"thread.id\",\"value\":{\"intValue\":\"0\"}},\
+{\"key\":\"busy_ns\",\"value\":{\"intValue\":\"3000\"}},\
+{\"key\":\"idle_ns\",\"value\":{\"intValue\":\"2000\"}}],\
+\"endTimeUnixNano\":\"1700000000000008000\",\
+\"events\":[{\"attributes\":[{\"key\":\"level\",\"value\":{\"stringValue\":\"WARN\"}},\
+{\"key\":\"target\",\"value\":{\"stringValue\":\"app\"}},\
+{\"key\":\"thread.id\",\"value\":{\"intValue\":\"0\"}},\
+{\"key\":\"left\",\"value\":{\"intValue\":\"-3\"}}],\
+\"name\":\"<said>\",\"timeUnixNano\":\"1700000000000005000\"}],\
+\"kind\":1,\"links\":[],\"name\":\"inner\",\"parentSpanId\":\"0000000000000001\",\
+\"spanId\":\"0000000000000002\",\"startTimeUnixNano\":\"1700000000000003000\",\"status\":{},\
+\"traceId\":\"000000000000000000000000000000ab\"}]}]}]}";
+
+const OUTER: &str = "{\"resourceSpans\":[{\
+\"resource\":{\"attributes\":[{\"key\":\"service.name\",\"value\":{\"stringValue\":\"shop\"}}]},\
+\"scopeSpans\":[{\"spans\":[{\
+\"attributes\":[{\"key\":\"level\",\"value\":{\"stringValue\":\"INFO\"}},\
+{\"key\":\"target\",\"value\":{\"stringValue\":\"app\"}},\
+{\"key\":\"thread.id\",\"value\":{\"intValue\":\"0\"}},\
+{\"key\":\"busy_ns\",\"value\":{\"intValue\":\"8000\"}},\
+{\"key\":\"idle_ns\",\"value\":{\"intValue\":\"2999\"}},\
+{\"key\":\"id\",\"value\":{\"intValue\":\"7\"}},\
+{\"key\":\"for\",\"value\":{\"stringValue\":\"a \\\"b\\\"\"}}],\
+\"endTimeUnixNano\":\"1700000000000011999\",\"events\":[],\
+\"kind\":1,\"links\":[],\"name\":\"outer\",\"parentSpanId\":\"\",\
+\"spanId\":\"0000000000000001\",\"startTimeUnixNano\":\"1700000000000001000\",\"status\":{},\
+\"traceId\":\"000000000000000000000000000000ab\"}]}]}]}";
+
+/// The trace of a service.
+fn trace_of_shop(alloc: Global) -> Result<Trace, Fail> {
+    Ok(Trace {
+        id: 0xab,
+        service: String::from_str(alloc, "shop")?,
+        began: 1_700_000_000_000_000_000,
+        parent: None,
+        attributes: Vec::new(alloc),
+    })
+}
+
+#[test]
+fn spans_for_opentelemetry(rt: HostRuntime) -> Result<(), Fail> {
+    let alloc = rt.alloc();
+    let (sites, fields) = (sites(alloc)?, fields(alloc)?);
+    let table = Table {
+        sites: &sites,
+        fields: &fields,
+    };
+    let trace = trace_of_shop(alloc)?;
+    let lines = otlp_lines(alloc, &trace, &points(), table)?;
+    assert!(rt; lines.len() == 2, "the span of the other lane isn't closed");
+    assert!(rt; lines[0].as_str() == INNER);
+    assert!(rt; lines[1].as_str() == OUTER);
+    Ok(())
+}
+
+/// Three spans close, one that opened elsewhere does, and one stays open.
+fn five_spans() -> [Point; 8] {
+    let (first, second, third) = (Id::from_u64(1), Id::from_u64(2), Id::from_u64(3));
+    let (elsewhere, open) = (Id::from_u64(4), Id::from_u64(5));
+    [
+        at(0, 0, Happening::Opened(first, 1, None)),
+        at(1, 0, Happening::Opened(second, 2, None)),
+        at(2, 0, Happening::Opened(third, 5, None)),
+        at(3, 0, Happening::Opened(open, 1, None)),
+        at(4, 0, Happening::Closed(second)),
+        at(5, 0, Happening::Closed(elsewhere)),
+        at(6, 0, Happening::Closed(third)),
+        at(7, 0, Happening::Closed(first)),
+    ]
+}
+
+/// The first request of two spans each. The second one has a name and a target that are hostile.
+const PAIR: &str = "{\"resourceSpans\":[{\
+\"resource\":{\"attributes\":[{\"key\":\"service.name\",\"value\":{\"stringValue\":\"shop\"}}]},\
+\"scopeSpans\":[{\"spans\":[{\
+\"attributes\":[{\"key\":\"level\",\"value\":{\"stringValue\":\"DEBUG\"}},\
+{\"key\":\"target\",\"value\":{\"stringValue\":\"app::net\"}},\
+{\"key\":\"thread.id\",\"value\":{\"intValue\":\"0\"}},\
+{\"key\":\"busy_ns\",\"value\":{\"intValue\":\"0\"}},\
+{\"key\":\"idle_ns\",\"value\":{\"intValue\":\"3\"}}],\
+\"endTimeUnixNano\":\"1700000000000000004\",\"events\":[],\
+\"kind\":1,\"links\":[],\"name\":\"inner\",\"parentSpanId\":\"\",\
+\"spanId\":\"0000000000000002\",\"startTimeUnixNano\":\"1700000000000000001\",\"status\":{},\
+\"traceId\":\"000000000000000000000000000000ab\"},{\
+\"attributes\":[{\"key\":\"level\",\"value\":{\"stringValue\":\"INFO\"}},\
+{\"key\":\"target\",\"value\":{\"stringValue\":\"<;\\u0000>\"}},\
+{\"key\":\"thread.id\",\"value\":{\"intValue\":\"0\"}},\
+{\"key\":\"busy_ns\",\"value\":{\"intValue\":\"0\"}},\
+{\"key\":\"idle_ns\",\"value\":{\"intValue\":\"4\"}}],\
+\"endTimeUnixNano\":\"1700000000000000006\",\"events\":[],\
+\"kind\":1,\"links\":[],\"name\":\"a\\n\\\"\",\"parentSpanId\":\"\",\
+\"spanId\":\"0000000000000003\",\"startTimeUnixNano\":\"1700000000000000002\",\"status\":{},\
+\"traceId\":\"000000000000000000000000000000ab\"}]}]}]}";
+
+#[test]
+fn spans_in_batches(rt: HostRuntime) -> Result<(), Fail> {
+    let alloc = rt.alloc();
+    let mut sites = sites(alloc)?;
+    sites.push(site(alloc, 5, "a\n\"", "<;\0>", Level::INFO)?)?;
+    let trace = trace_of_shop(alloc)?;
+    let pairs = otlp_batches(alloc, &trace, &five_spans(), names(&sites), 2)?;
+    assert!(rt; pairs.len() == 2);
+    assert!(rt; pairs[0].as_str() == PAIR);
+    assert!(rt;
+        pairs[1]
+            .as_str()
+            .contains("\"spanId\":\"0000000000000001\"")
+    );
+    assert!(rt; !pairs[1].as_str().contains("},{\"attributes\""));
+    let all = otlp_batches(alloc, &trace, &five_spans(), names(&sites), 3)?;
+    assert!(rt; all.len() == 1);
+    let none = otlp_batches(alloc, &trace, &five_spans()[..4], names(&sites), 3)?;
+    assert!(rt; none.is_empty());
+    Ok(())
+}
+
+#[test]
+fn fields_that_the_table_lacks_are_counted(rt: HostRuntime) -> Result<(), Fail> {
+    let alloc = rt.alloc();
+    let sites = sites(alloc)?;
+    let lines = otlp_lines(alloc, &trace_of_shop(alloc)?, &points(), names(&sites))?;
+    assert!(rt; lines.len() == 2);
+    let event = "\"droppedAttributesCount\":1,\"name\":\"<said>\"";
+    assert!(rt; lines[0].as_str().contains(event));
+    let span = "\"droppedAttributesCount\":2,\"endTimeUnixNano\"";
+    assert!(rt; lines[1].as_str().contains(span));
+    assert!(rt; !lines[0].as_str().contains("Count\":0"));
+    Ok(())
+}
+
+#[test]
+fn batches_of_one_are_lines(rt: HostRuntime) -> Result<(), Fail> {
+    let alloc = rt.alloc();
+    let sites = sites(alloc)?;
+    let trace = trace_of_shop(alloc)?;
+    let lines = otlp_lines(alloc, &trace, &five_spans(), names(&sites))?;
+    let ones = otlp_batches(alloc, &trace, &five_spans(), names(&sites), 0)?;
+    assert!(rt; lines.len() == 3 && ones.len() == 3);
+    for place in 0..3 {
+        assert!(rt; ones[place].as_str() == lines[place].as_str());
+    }
+    Ok(())
+}
+
+#[test]
+fn the_outermost_spans_are_below_the_parent(rt: HostRuntime) -> Result<(), Fail> {
+    let alloc = rt.alloc();
+    let sites = sites(alloc)?;
+    let parent = TraceParent {
+        trace: 0xab,
+        span: 0xf0,
+        flags: 1,
+    };
+    let trace = Trace::under(alloc, &parent, String::from_str(alloc, "shop")?, 0);
+    let lines = otlp_lines(alloc, &trace, &points(), names(&sites))?;
+    assert!(rt; lines.len() == 2);
+    assert!(rt;
+        lines[0]
+            .as_str()
+            .contains("\"parentSpanId\":\"0000000000000001\"")
+    );
+    assert!(rt;
+        lines[1]
+            .as_str()
+            .contains("\"parentSpanId\":\"00000000000000f0\"")
+    );
+    let id = "\"traceId\":\"000000000000000000000000000000ab\"";
+    assert!(rt; lines[1].as_str().contains(id));
+    Ok(())
+}
+
+const RESOURCE: &str = "{\"resourceSpans\":[{\"resource\":{\"attributes\":[\
+{\"key\":\"service.name\",\"value\":{\"stringValue\":\"shop\"}},\
+{\"key\":\"service.version\",\"value\":{\"stringValue\":\"1 \\\"b\\\"\"}},\
+{\"key\":\"host.name\",\"value\":{\"stringValue\":\"\"}}]},";
+
+#[test]
+fn the_resource_has_attributes(rt: HostRuntime) -> Result<(), Fail> {
+    let alloc = rt.alloc();
+    let sites = sites(alloc)?;
+    let mut trace = trace_of_shop(alloc)?;
+    let version = String::from_str(alloc, "service.version")?;
+    let text = String::from_str(alloc, "1 \"b\"")?;
+    trace.attributes.push((version, text))?;
+    let host = String::from_str(alloc, "host.name")?;
+    trace.attributes.push((host, String::new(alloc)))?;
+    let lines = otlp_lines(alloc, &trace, &points(), names(&sites))?;
+    assert!(rt; lines.len() == 2);
+    assert!(rt; lines[0].as_str().starts_with(RESOURCE));
+    assert!(rt; lines[1].as_str().starts_with(RESOURCE));
+    Ok(())
+}
+
+const LINKS: &str = "\"links\":[\
+{\"spanId\":\"0000000000000007\",\"traceId\":\"000000000000000000000000000000ab\"},\
+{\"spanId\":\"0000000000000001\",\"traceId\":\"000000000000000000000000000000ab\"}],";
+
+#[test]
+fn what_a_span_follows_from_is_a_link(rt: HostRuntime) -> Result<(), Fail> {
+    let alloc = rt.alloc();
+    let sites = sites(alloc)?;
+    let (first, second, other) = (Id::from_u64(1), Id::from_u64(2), Id::from_u64(7));
+    let points = [
+        at(0, 0, Happening::Opened(first, 1, None)),
+        at(1, 0, Happening::Followed(second, first)),
+        at(2, 0, Happening::Opened(second, 2, None)),
+        at(3, 0, Happening::Followed(second, other)),
+        at(4, 0, Happening::Followed(other, second)),
+        at(5, 0, Happening::Followed(second, first)),
+        at(6, 0, Happening::Closed(second)),
+        at(7, 0, Happening::Closed(first)),
+    ];
+    let lines = otlp_lines(alloc, &trace_of_shop(alloc)?, &points, names(&sites))?;
+    assert!(rt; lines.len() == 2);
+    assert!(rt; lines[0].as_str().contains(LINKS));
+    assert!(rt; lines[1].as_str().contains("\"links\":[],"));
+    Ok(())
+}
+
+/// Each type as OpenTelemetry has it: what fits none is a text.
+const TYPED: &str = "\"attributes\":[\
+{\"key\":\"target\",\"value\":{\"stringValue\":\"app\"}},\
+{\"key\":\"thread.id\",\"value\":{\"intValue\":\"0\"}},\
+{\"key\":\"busy_ns\",\"value\":{\"intValue\":\"0\"}},\
+{\"key\":\"idle_ns\",\"value\":{\"intValue\":\"2\"}},\
+{\"key\":\"level\",\"value\":{\"boolValue\":true}},\
+{\"key\":\"u\",\"value\":{\"stringValue\":\"9223372036854775808\"}},\
+{\"key\":\"v\",\"value\":{\"intValue\":\"9223372036854775807\"}},\
+{\"key\":\"w\",\"value\":{\"stringValue\":\"340282366920938463463374607431768211455\"}},\
+{\"key\":\"x\",\"value\":{\"stringValue\":\"-1\"}},\
+{\"key\":\"f\",\"value\":{\"doubleValue\":0.5}},\
+{\"key\":\"g\",\"value\":{\"doubleValue\":\"-Infinity\"}},\
+{\"key\":\"t\",\"value\":{\"stringValue\":\"two\"}}]";
+
+/// Fields of all types, one of them twice.
+fn typed(alloc: Global) -> Result<Vec<OwnedField>, Fail> {
+    let mut fields = Vec::new(alloc);
+    fields.push(field(alloc, "level", OwnedValue::Bool(true))?)?;
+    fields.push(field(alloc, "u", OwnedValue::U64(1 << 63))?)?;
+    fields.push(field(alloc, "v", OwnedValue::U64((1 << 63) - 1))?)?;
+    fields.push(field(alloc, "w", OwnedValue::U128(u128::MAX))?)?;
+    fields.push(field(alloc, "x", OwnedValue::I128(-1))?)?;
+    fields.push(field(
+        alloc,
+        "f",
+        OwnedValue::F64(0.5, String::from_str(alloc, "0.5")?),
+    )?)?;
+    fields.push(field(
+        alloc,
+        "g",
+        OwnedValue::F64(f64::NEG_INFINITY, String::from_str(alloc, "-inf")?),
+    )?)?;
+    fields.push(field(
+        alloc,
+        "t",
+        OwnedValue::Text(String::from_str(alloc, "one")?),
+    )?)?;
+    fields.push(field(
+        alloc,
+        "t",
+        OwnedValue::Text(String::from_str(alloc, "two")?),
+    )?)?;
+    Ok(fields)
+}
+
+#[test]
+fn attributes_have_their_types(rt: HostRuntime) -> Result<(), Fail> {
+    let alloc = rt.alloc();
+    let (sites, fields) = (sites(alloc)?, typed(alloc)?);
+    let table = Table {
+        sites: &sites,
+        fields: &fields,
+    };
+    let (trace, first) = (trace_of_shop(alloc)?, Id::from_u64(1));
+    let points = [
+        with(0, 0, Happening::Opened(first, 1, None), 0, 5),
+        with(1, 0, Happening::Recorded(first), 5, 9),
+        at(2, 0, Happening::Closed(first)),
+    ];
+    let lines = otlp_lines(alloc, &trace, &points, table)?;
+    assert!(rt; lines.len() == 1);
+    assert!(rt; lines[0].as_str().contains(TYPED));
+    Ok(())
+}
+
+#[test]
+fn an_error_is_a_status(rt: HostRuntime) -> Result<(), Fail> {
+    let alloc = rt.alloc();
+    let sites = sites(alloc)?;
+    let (trace, first, second) = (trace_of_shop(alloc)?, Id::from_u64(1), Id::from_u64(2));
+    let points = [
+        at(0, 0, Happening::Opened(first, 1, None)),
+        at(0, 0, Happening::Opened(second, 2, Some(first))),
+        at(1, 0, Happening::Sent(4, Some(second))),
+        at(2, 0, Happening::Closed(second)),
+        at(3, 0, Happening::Closed(first)),
+    ];
+    let lines = otlp_lines(alloc, &trace, &points, names(&sites))?;
+    assert!(rt; lines.len() == 2);
+    assert!(rt; lines[0].as_str().contains("\"status\":{\"code\":2}"));
+    assert!(rt; lines[1].as_str().contains("\"status\":{}"));
+    Ok(())
+}
+
+#[test]
+fn a_hostile_value_stays_a_value(rt: HostRuntime) -> Result<(), Fail> {
+    let alloc = rt.alloc();
+    let (sites, fields) = (sites(alloc)?, hostile_fields(alloc)?);
+    let table = Table {
+        sites: &sites,
+        fields: &fields,
+    };
+    let lines = otlp_lines(alloc, &trace_of_shop(alloc)?, &hostile_points(), table)?;
+    assert!(rt; lines.len() == 1);
+    let shown = "{\"key\":\"a;b\\\"\",\
+\"value\":{\"stringValue\":\"\\\"<a;b>&\\\\\\n\\u0000 x}yyyy";
+    assert!(rt; lines[0].as_str().contains(shown));
+    Ok(())
+}
+
+#[test]
+fn a_job_shows_its_id(rt: HostRuntime) -> Result<(), Fail> {
+    let alloc = rt.alloc();
+    let taken = job(alloc)?;
+    let lines = otlp_lines(alloc, &trace_of_shop(alloc)?, &taken.points, taken.table())?;
+    assert!(rt; lines.len() == 1);
+    assert!(rt;
+        lines[0]
+            .as_str()
+            .contains("{\"key\":\"id\",\"value\":{\"intValue\":\"7\"}}")
+    );
+    Ok(())
+}

@@ -1,8 +1,0 @@
-use Rattle.std.proofs.Common.{◌≡◌, ◌++◌, map, take}
-use Rattle.serde_json.specs.View.{view}
-use Rattle.span_export.specs.Batch.{known_attribute}
-use Rattle.span_export.proofs.batch.write_known.Given as goal
-
--- the attributes so far
-abbrev pub invariant-loop-item : goal.invariant-loop-item
-invariant-loop-item l = map view l.pairs.items ≡ map view l.fn.pairs.items ++ map known_attribute (take l.item-index l.known)

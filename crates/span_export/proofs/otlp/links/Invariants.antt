@@ -1,8 +1,0 @@
-use Rattle.std.proofs.Common.{◌≡◌, map, take}
-use Rattle.serde_json.specs.View.{view}
-use Rattle.span_export.specs.Otlp.{links_of}
-use Rattle.span_export.proofs.otlp.links.Given as goal
-
--- the links so far
-abbrev pub invariant-loop-point : goal.invariant-loop-point
-invariant-loop-point l = map view l.links.items ≡ links_of l.trace l.id (take l.point-index l.since)

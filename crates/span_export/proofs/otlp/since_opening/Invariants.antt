@@ -1,8 +1,0 @@
-use Rattle.std.proofs.Common.{◌≡◌, [], drop}
-use Rattle.span_core.specs.Span.{number_of}
-use Rattle.span_export.specs.Otlp.{since_opening}
-use Rattle.span_export.proofs.otlp.since_opening.Given as goal
-
--- none of those behind opens it
-abbrev pub invariant-loop-start : goal.invariant-loop-start
-invariant-loop-start l = since_opening (number_of l.id) (drop l.start l.points) ≡ []

@@ -1,0 +1,10 @@
+mod Batches
+mod BigEndian
+mod Depth
+mod Digits
+mod Kept
+mod Lost
+mod Openings
+mod Own
+mod Parents
+mod Requests

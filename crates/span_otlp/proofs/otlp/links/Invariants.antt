@@ -1,0 +1,8 @@
+use Rattle.std.proofs.Common.{◌≡◌, map, take}
+use Rattle.serde_json.specs.View.{view}
+use Rattle.span_otlp.specs.Otlp.{links_of}
+use Rattle.span_otlp.proofs.otlp.links.Given as goal
+
+-- the links so far
+abbrev pub invariant-loop-point : goal.invariant-loop-point
+invariant-loop-point l = map view l.links.items ≡ links_of l.trace l.id (take l.point-index l.since)
