@@ -1,15 +1,17 @@
 //! Writes a line for each event as it comes.
 //!
 //! Where the first line of input is a form, a work and a number, it does so many rounds of that,
-//! and nobody keeps the lines: `bench/run_lines` counts what a round takes. Else each line of input
-//! is the text of an event, whose line goes to standard output: `tests/lines_as_they_come` ends the
-//! program in the middle.
+//! and nobody keeps the lines: `bench/run_lines` counts what a round takes. `otlp` is such a form,
+//! whose spans go to a collector: the requests that this accepts go to standard output. Else each
+//! line of input is the text of an event, whose line goes to standard output:
+//! `tests/lines_as_they_come` ends the program in the middle.
 #![tactic(auto)]
 
 ghost use Rattle.span_store.specs.Store.{IsFresh};
 
 mod order;
 mod rounds;
+mod sent;
 mod sink;
 
 use order::{Order, Shape};
@@ -49,6 +51,7 @@ fn main(rt: HostRuntime) -> anyhow::Result<()> {
         }
         Shape::Json => traced(&rt, alloc, JsonForm::new(alloc, clock, utc), order),
         Shape::Tree => traced(&rt, alloc, TreeForm::new(alloc), order),
+        Shape::Otlp => sent::sent(rt, alloc, rt.stdout(), order),
     }
 }
 

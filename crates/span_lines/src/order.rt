@@ -15,6 +15,8 @@ pub enum Shape {
     Json,
     /// `TreeForm`.
     Tree,
+    /// OpenTelemetry's spans, for a collector.
+    Otlp,
 }
 
 impl Shape {
@@ -28,6 +30,7 @@ impl Shape {
             "pretty" => Some(Shape::Plain(Layout::Pretty)),
             "json" => Some(Shape::Json),
             "tree" => Some(Shape::Tree),
+            "otlp" => Some(Shape::Otlp),
             _ => None,
         }
     }
