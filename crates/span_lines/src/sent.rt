@@ -9,15 +9,16 @@ use span_dispatch::Dispatch;
 use span_export::{Trace, otlp_lines};
 use span_layers::Observer;
 use span_registry::Registry;
-use span_sender::{Answer, BatchConfig, Poster, RetryPolicy, Sender};
+use span_sender::{Answer, BatchConfig, Poster, RetryPolicy, Sender, SenderGuard};
 use span_stacks::SubscriberExt;
 use span_times::{Counted, Timeline};
 use span_tracer::{HasObserver, Receiver, Tracer};
 use std::alloc::Global;
 use std::io::{self, Write};
-use std::sync::Wait;
+use std::sync::atomic::{AtomicU64, Ordering};
+use std::sync::{Arc, Wait};
 use std::thread::Threads;
-use std::time::Clock;
+use std::time::{Clock, Duration};
 
 /// After so many rounds the sender is handed what has closed.
 const AT_ONCE: u64 = 100;
@@ -43,7 +44,7 @@ const CONFIG: BatchConfig = BatchConfig {
 #[derive(Drop)]
 struct Collector<W> {
     posts: u64,
-    spans: u64,
+    spans: Arc<AtomicU64, Global>,
     writer: W,
 }
 
@@ -76,7 +77,7 @@ impl<W: Write> Poster for Collector<W> {
             if write_line(&mut self.writer, body).is_err() {
                 return Answer::Failed;
             }
-            self.spans = self.spans.saturating_add(spans_in(body));
+            self.spans.fetch_add(spans_in(body), Ordering::SeqCst);
         }
         answer
     }
@@ -102,34 +103,50 @@ where
     R: Threads + Wait + Clock + Eprint + Copy + Send + Drop + 'static,
     W: Write + Send + Drop + 'static,
 {
+    let spans = Arc::new(alloc, AtomicU64::new(0))?;
     let collector = Collector {
         posts: 0,
-        spans: 0,
+        spans: Arc::try_clone(&spans)?,
         writer,
     };
     let (mut sender, guard) = Sender::new(rt, alloc, collector, rt, CONFIG, TIMEOUT)?;
     let layer = Observer::new(Timeline::new(alloc, Counted::new()).with_values(true));
     let stack = Registry::new(alloc).with(layer)?;
-    made(&rt, alloc, stack, order, &mut sender)?;
-    let finished = guard.finish(&mut sender);
-    let counts = finished.counts;
+    let handed = made(&rt, alloc, stack, order, &mut sender)?;
+    wait_for(&rt, &guard, handed);
+    let (accepted, refused, dropped) = (guard.accepted(), guard.refused(), guard.dropped());
     ensure!(
-        finished.poster.spans == counts.accepted,
+        spans.load(Ordering::SeqCst) == accepted,
         "the collector counts otherwise"
     );
-    let dropped = counts.dropped.saturating_add(finished.missed);
-    eprintln!(rt; "{} {} {dropped}", counts.accepted, counts.refused)?;
+    eprintln!(rt; "{accepted} {refused} {dropped}")?;
     Ok(())
 }
 
-/// Does what is asked for through a receiver over this stack, and hands over the spans.
+/// Waits until it is counted what became of so many spans, a minute at most.
+fn wait_for<P: Poster, C: Clock, R: Threads + Wait + Clock>(
+    rt: &R,
+    guard: &SenderGuard<P, C, R>,
+    spans: u64,
+) {
+    for _ in 0..60_000 {
+        let sent = guard.accepted().saturating_add(guard.refused());
+        if sent.saturating_add(guard.dropped()) >= spans {
+            break;
+        }
+        rt.sleep(Duration::from_millis(1));
+    }
+}
+
+/// Does what is asked for through a receiver over this stack, and hands over the spans. Says how
+/// many there were.
 fn made<R: Wait, S: HasObserver<Observer = Timeline<Counted>> + Drop>(
     rt: &R,
     alloc: Global,
     stack: S,
     order: Order,
     sender: &mut Sender,
-) -> anyhow::Result<()>
+) -> anyhow::Result<u64>
     requires usable { S.usable stack }
     requires fresh { IsFresh (S.registry stack) }
 {
@@ -142,19 +159,21 @@ fn made<R: Wait, S: HasObserver<Observer = Timeline<Counted>> + Drop>(
         parent: None,
         attributes: Vec::new(alloc),
     };
+    let mut handed = 0u64;
     for _ in 0..order.rounds / AT_ONCE {
-        hand_over(tracer, alloc, &trace, order.work, AT_ONCE, sender)?;
+        let more = hand_over(tracer, alloc, &trace, order.work, AT_ONCE, sender)?;
+        handed = handed.saturating_add(more);
     }
     let rest = order.rounds % AT_ONCE;
-    hand_over(tracer, alloc, &trace, order.work, rest, sender)?;
+    let more = hand_over(tracer, alloc, &trace, order.work, rest, sender)?;
     ensure!(
         !tracer.with_observer(|timeline| timeline.failed()),
         "out of memory"
     );
-    Ok(())
+    Ok(handed.saturating_add(more))
 }
 
-/// Does so many rounds of a work, and hands over the spans that have closed.
+/// Does so many rounds of a work, and hands over the spans that have closed. Says how many.
 fn hand_over<R: Wait, S: HasObserver<Observer = Timeline<Counted>>>(
     tracer: Tracer<'_, R, S>,
     alloc: Global,
@@ -162,11 +181,13 @@ fn hand_over<R: Wait, S: HasObserver<Observer = Timeline<Counted>>>(
     work: Work,
     rounds: u64,
     sender: &mut Sender,
-) -> anyhow::Result<()> {
+) -> anyhow::Result<u64> {
     rounds::done(tracer, work, rounds)?;
     let taken = tracer.with_observer(|timeline| timeline.take_finished())?;
+    let mut handed = 0u64;
     for line in otlp_lines(alloc, trace, &taken.points, taken.table())? {
         sender.push(line);
+        handed = handed.saturating_add(1);
     }
-    Ok(())
+    Ok(handed)
 }
