@@ -11,7 +11,8 @@ use Rattle.span_timing.proofs.Counting.{found_weight, put_weight}
 use Rattle.span_timing.specs.Histogram.{Counts, bucket_end, counted_below, counts_in, greatest, most_in}
 use Rattle.span_timing.specs.declared.histogram.Histogram.{Histogram}
 
-greatest_more : (times : List ℕ) (t : ℕ) → greatest (times ++ t ∷ []) ≡ max (greatest times) t
+-- one more time
+pub greatest_more : (times : List ℕ) (t : ℕ) → greatest (times ++ t ∷ []) ≡ max (greatest times) t
 greatest_more [] t = omega arith
 greatest_more (s ∷ times) t = let rest = greatest_more times t in omega arith
 

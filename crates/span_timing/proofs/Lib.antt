@@ -1,8 +1,12 @@
 mod Adding
 mod Bucket
+mod Columns
 mod Counting
+mod First
 mod Openings
 mod Noted
+mod Once
+mod Pushed
 mod Quantile
 mod Ranks
 mod Rows

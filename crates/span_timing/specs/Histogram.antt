@@ -1,6 +1,9 @@
 -- How times are spread.
-use Rattle.std.specs.Prelude.{◌≡◌, ◌≤◌, ◌<◌, ◌+◌, ◌-◌, ◌*◌, ◌/◌, ◌%◌, ◌^◌, ℕ, if◌then◌else◌, count_by, length, List, [], ◌∷◌, max, nat_le, nat_lt, sum_by}
+use Rattle.std.specs.Prelude.{◌≡◌, ◌≤◌, ◌<◌, ◌+◌, ◌-◌, ◌*◌, ◌/◌, ◌%◌, ◌^◌, ℕ, Bool, if◌then◌else◌, count_by, find, length, List, [], ◌∷◌, max, min, nat_le, nat_lt, sum_by}
+use Rattle.std.specs.BTreeMap.{keys}
 use Rattle.std.specs.Int.{leading_zeros, w64}
+use Rattle.std.specs.Option.{option_map_or}
+use Rattle.span_times.specs.Measure.{capped}
 use Rattle.span_timing.specs.declared.histogram.Histogram.{Histogram}
 
 -- how wide the bucket of a time is: a sixteenth of the greatest power of two up to the time, and 1
@@ -32,6 +35,17 @@ counted_below end h = sum_by (λ e. if nat_lt e.0 end then e.1 else 0) (counts_i
 abbrev pub greatest : List ℕ → ℕ
 greatest [] = 0
 greatest (t ∷ times) = max t (greatest times)
+
+-- whether so many parts of the whole are counted in the buckets up to the one that ends here
+abbrev pub holds_parts : ℕ → ℕ → Histogram → ℕ → Bool
+holds_parts parts whole h end =
+    nat_le (capped (counted h) * parts) (capped (counted_below (end + 1) h) * whole)
+
+-- up to where so many parts of the whole are counted: where the first bucket ends that completes
+-- them, or the greatest time where that is less
+abbrev pub quantile_in : ℕ → ℕ → Histogram → ℕ
+quantile_in parts whole h =
+    option_map_or (min (most_in h)) (find (holds_parts parts whole h) (keys h.counts)) (most_in h)
 
 -- each of these times is counted once, in its bucket, and the greatest is known
 pub record Counts (times : List ℕ) (h : Histogram) : Type 0 where

@@ -1,4 +1,8 @@
 pub mod Histogram
+pub mod Layout
 pub mod Life
 pub mod Row
+pub mod Text
 pub mod Timing
+pub mod Unit
+pub mod private

@@ -1,6 +1,6 @@
 -- How often spans and events came, and how long spans took.
 use Rattle.std.specs.Prelude.{◌≡◌, ◌<◌, ◌^◌, ◌==◌, ℕ, List, [], MatchOption, Option, count_by, filter, length, unwrap_or}
-use Rattle.std.specs.BTreeMap.{get}
+use Rattle.std.specs.BTreeMap.{get, keys}
 use Rattle.std.specs.Ordering.{nat_cmp}
 use Rattle.span_timing.specs.Row.{IsRowOf}
 use Rattle.span_timing.specs.declared.life.Life.{Life}
@@ -14,6 +14,14 @@ row_at n t = get nat_cmp t.rows n
 -- how many events a callsite sent
 abbrev pub events_at : ℕ → Timing → ℕ
 events_at n t = unwrap_or (get nat_cmp t.events n) 0
+
+-- the callsites of which spans closed, in the order of their numbers
+abbrev pub span_callsites : Timing → List ℕ
+span_callsites t = keys t.rows
+
+-- the callsites that sent events, in the order of their numbers
+abbrev pub event_callsites : Timing → List ℕ
+event_callsites t = keys t.events
 
 -- the lives of spans of one callsite
 abbrev pub of_callsite : ℕ → List Life → List Life

@@ -1,6 +1,6 @@
 //! How times are spread.
 ghost use Rattle.std.specs.Prelude.{◌≡◌, ◌≤◌, ◌<◌, ◌^◌, ◌++◌, ◌∷◌, [], ℕ, List, OnErr, OnOk, length};
-ghost use Rattle.span_timing.specs.Histogram.{IsOf, IsQuantile, IsSame, bucket_end, counted, counts_in, most_in};
+ghost use Rattle.span_timing.specs.Histogram.{IsOf, IsQuantile, IsSame, bucket_end, counted, counts_in, most_in, quantile_in};
 ghost use Rattle.span_times.specs.Measure.{capped};
 
 use std::alloc::{AllocError, Global};
@@ -79,6 +79,7 @@ impl Histogram {
             → 0 < length times → 0 < parts → parts ≤ whole
             → IsQuantile parts whole times result }
         ensures most { result ≤ most_in self.now }
+        ensures exact { result ≡ quantile_in parts whole self.now }
     {
         let wanted = u128::from(self.count()) * u128::from(parts);
         let mut count = 0u64;

@@ -5,9 +5,11 @@
 #![tactic(auto)]
 
 mod histogram;
+mod layout;
 mod life;
 mod text;
 mod timing;
+mod unit;
 
 pub use histogram::Histogram;
 pub use life::Life;

@@ -1,20 +1,27 @@
 //! A table of how often spans and events came, and how long spans took.
+ghost use Rattle.std.specs.Option.{option_copied, option_map_or};
+ghost use Rattle.std.specs.Prelude.{◌≡◌, ◌==◌, ◌++◌, ◌∷◌, [], IfOk, OnOk, codes, decimal, find, flat_map, string_bytes};
+ghost use Rattle.span_fmt.specs.Escape.{escaped};
+ghost use Rattle.span_timing.specs.Text.{called, called_by, callsites_in, each_once, event_lines, event_words, further_line, span_lines, span_words, times_cells, timing_text};
+ghost use Rattle.span_timing.specs.Timing.{events_at, row_at};
+ghost use Rattle.span_timing.specs.private.Cells.{cells_in, lines_in, words_in};
 
 use crate::histogram::Histogram;
+use crate::layout::{Line, laid_out};
 use crate::timing::{Row, Timing};
+use crate::unit::time_text;
 use span_fmt::write_escaped;
 use span_times::Site;
 use std::alloc::{AllocError, Global};
-
-/// A line of the table: the texts of its columns.
-type Line = Vec<String>;
 
 /// A table for people: how often the spans of each callsite closed, and how long they were open,
 /// busy and idle, at the 50th, 90th and 99th percent and at most; then how often each event came.
 ///
 /// Callsites stand in the order of `sites`, and are called as these have them, escaped as
 /// `span_fmt::write_escaped` does. Behind them come those that it doesn't have, as `?`.
-pub fn timing_text(alloc: Global, timing: &Timing, sites: &[Site]) -> Result<String, AllocError> {
+pub fn timing_text(alloc: Global, timing: &Timing, sites: &[Site]) -> Result<String, AllocError>
+    ensures { IfOk result (λ text. string_bytes text ≡ timing_text timing.now sites.now) }
+{
     let callsites = callsites(alloc, timing, sites)?;
     let mut lines = Vec::new(alloc);
     push_spans(alloc, &mut lines, timing, sites, &callsites)?;
@@ -23,26 +30,26 @@ pub fn timing_text(alloc: Global, timing: &Timing, sites: &[Site]) -> Result<Str
 }
 
 /// The numbers of all callsites, each once: those of these sites first.
-fn callsites(alloc: Global, timing: &Timing, sites: &[Site]) -> Result<Vec<u64>, AllocError> {
-    let mut callsites = Vec::new(alloc);
-    for site in sites {
-        push_new(&mut callsites, site.callsite)?;
-    }
-    for (callsite, _) in timing.rows().iter() {
-        push_new(&mut callsites, *callsite)?;
-    }
-    for (callsite, _) in timing.event_counts().iter() {
-        push_new(&mut callsites, *callsite)?;
-    }
-    Ok(callsites)
+fn callsites(alloc: Global, timing: &Timing, sites: &[Site]) -> Result<Vec<u64>, AllocError>
+    ensures { IfOk result (λ numbers. numbers.items ≡ callsites_in timing.now sites.now) }
+{
+    let mut numbers: Vec<u64> = sites.iter().map(|site| site.callsite).collect(alloc)?;
+    numbers.extend_from_slice(&timing.span_callsites()?)?;
+    numbers.extend_from_slice(&timing.event_callsites()?)?;
+    each_once(alloc, &numbers)
 }
 
-/// Pushes a number, unless it is there.
-fn push_new(numbers: &mut Vec<u64>, number: u64) -> Result<(), AllocError> {
-    if !numbers.contains(&number) {
-        numbers.push(number)?;
+/// These numbers, each once, where it stands first.
+fn each_once(alloc: Global, numbers: &[u64]) -> Result<Vec<u64>, AllocError>
+    ensures { IfOk result (λ once. once.items ≡ each_once numbers.now) }
+{
+    let mut once = Vec::new(alloc);
+    for number in numbers {
+        if !once.contains(number) {
+            once.push(*number)?;
+        }
     }
-    Ok(())
+    Ok(once)
 }
 
 /// Pushes the lines of spans, below what their columns are called.
@@ -52,15 +59,17 @@ fn push_spans(
     timing: &Timing,
     sites: &[Site],
     callsites: &[u64],
-) -> Result<(), AllocError> {
+) -> Result<(), AllocError>
+    ensures { OnOk result (lines_in lines.new.items ≡ lines_in lines.old.items ++ span_words
+        ∷ flat_map (λ n. option_map_or (span_lines sites.now n) (row_at n timing.now) [])
+        callsites.now) }
+{
     let words = [
         "span", "target", "count", "time", "50%", "90%", "99%", "most",
     ];
     lines.push(line_of(alloc, &words)?)?;
     for callsite in callsites {
-        if let Some(row) = timing.row(*callsite) {
-            push_row(alloc, lines, find_site(sites, *callsite), row)?;
-        }
+        push_row(alloc, lines, sites, *callsite, timing.row(*callsite))?;
     }
     Ok(())
 }
@@ -72,19 +81,21 @@ fn push_events(
     timing: &Timing,
     sites: &[Site],
     callsites: &[u64],
-) -> Result<(), AllocError> {
+) -> Result<(), AllocError>
+    ensures { OnOk result (lines_in lines.new.items ≡ lines_in lines.old.items ++ event_words
+        ∷ flat_map (λ n. event_lines sites.now n (events_at n timing.now)) callsites.now) }
+{
     lines.push(line_of(alloc, &["event", "target", "count"])?)?;
     for callsite in callsites {
-        let count = timing.events(*callsite);
-        if count > 0 {
-            lines.push(named_line(alloc, find_site(sites, *callsite), count)?)?;
-        }
+        push_count(alloc, lines, sites, *callsite, timing.events(*callsite))?;
     }
     Ok(())
 }
 
 /// A line of these words.
-fn line_of(alloc: Global, words: &[&str]) -> Result<Line, AllocError> {
+fn line_of(alloc: Global, words: &[&str]) -> Result<Line, AllocError>
+    ensures { IfOk result (λ line. cells_in line.items ≡ words_in words.now) }
+{
     let mut line = Vec::new(alloc);
     for word in words {
         line.push(String::from_str(alloc, *word)?)?;
@@ -92,19 +103,21 @@ fn line_of(alloc: Global, words: &[&str]) -> Result<Line, AllocError> {
     Ok(line)
 }
 
-/// The site with this number.
-fn find_site(sites: &[Site], callsite: u64) -> Option<&Site> {
-    sites.iter().find(|site| site.callsite == callsite)
-}
-
-/// The three lines of the spans of a callsite.
+/// Pushes the three lines of a callsite of which spans closed.
 fn push_row(
     alloc: Global,
     lines: &mut Vec<Line>,
-    site: Option<&Site>,
-    row: &Row,
-) -> Result<(), AllocError> {
-    let mut first = named_line(alloc, site, row.open.count())?;
+    sites: &[Site],
+    callsite: u64,
+    row: Option<&Row>,
+) -> Result<(), AllocError>
+    ensures { OnOk result (lines_in lines.new.items ≡ lines_in lines.old.items
+        ++ option_map_or (span_lines sites.now callsite) (option_copied row.entry) []) }
+{
+    let Some(row) = row else {
+        return Ok(());
+    };
+    let mut first = named_line(alloc, sites, callsite, row.open.count())?;
     push_times(alloc, &mut first, "open", &row.open)?;
     lines.push(first)?;
     lines.push(further_line(alloc, "busy", &row.busy)?)?;
@@ -112,28 +125,67 @@ fn push_row(
     Ok(())
 }
 
-/// A line without a name.
-fn further_line(alloc: Global, part: &str, times: &Histogram) -> Result<Line, AllocError> {
+/// Pushes the line of a callsite that sent events.
+fn push_count(
+    alloc: Global,
+    lines: &mut Vec<Line>,
+    sites: &[Site],
+    callsite: u64,
+    count: u64,
+) -> Result<(), AllocError>
+    ensures { OnOk result (lines_in lines.new.items
+        ≡ lines_in lines.old.items ++ event_lines sites.now callsite count) }
+{
+    if count == 0 {
+        return Ok(());
+    }
+    lines.push(named_line(alloc, sites, callsite, count)?)?;
+    Ok(())
+}
+
+/// A line under another, which has the name, the target and the count.
+fn further_line(alloc: Global, part: &str, times: &Histogram) -> Result<Line, AllocError>
+    ensures { IfOk result (λ line. cells_in line.items ≡ further_line part.now times.now) }
+{
     let mut line = line_of(alloc, &["", "", ""])?;
     push_times(alloc, &mut line, part, times)?;
     Ok(line)
 }
 
-/// A name with its target, and how often it came.
-fn named_line(alloc: Global, site: Option<&Site>, count: u64) -> Result<Line, AllocError> {
-    let (name, target) = match site {
-        Some(site) => (site.name.as_str(), site.target.as_str()),
-        None => ("?", "?"),
-    };
-    let mut line = Vec::new(alloc);
-    line.push(escaped(alloc, name)?)?;
-    line.push(escaped(alloc, target)?)?;
+/// The name and the target of a callsite, and how often it came.
+fn named_line(alloc: Global, sites: &[Site], callsite: u64, count: u64) -> Result<Line, AllocError>
+    ensures { IfOk result
+        (λ line. cells_in line.items ≡ called sites.now callsite ++ decimal count ∷ []) }
+{
+    let mut line = called(alloc, find_site(sites, callsite))?;
     line.push(format!(in alloc; "{count}")?)?;
     Ok(line)
 }
 
+/// The first site with this number.
+fn find_site(sites: &[Site], callsite: u64) -> Option<&Site>
+    ensures { option_copied result ≡ find (λ s. s.callsite == callsite) sites.now }
+{
+    sites.iter().find(|site| site.callsite == callsite)
+}
+
+/// The name and the target of a site, escaped.
+fn called(alloc: Global, site: Option<&Site>) -> Result<Line, AllocError>
+    ensures { IfOk result (λ line. cells_in line.items ≡ called_by (option_copied site.entry)) }
+{
+    let Some(site) = site else {
+        return line_of(alloc, &["?", "?"]);
+    };
+    let mut line = Vec::new(alloc);
+    line.push(escaped(alloc, site.name.as_str())?)?;
+    line.push(escaped(alloc, site.target.as_str())?)?;
+    Ok(line)
+}
+
 /// A text, escaped.
-fn escaped(alloc: Global, text: &str) -> Result<String, AllocError> {
+fn escaped(alloc: Global, text: &str) -> Result<String, AllocError>
+    ensures { IfOk result (λ new. string_bytes new ≡ escaped text.now) }
+{
     let mut new = String::new(alloc);
     write_escaped(&mut new, text)?;
     Ok(new)
@@ -145,93 +197,14 @@ fn push_times(
     line: &mut Line,
     part: &str,
     times: &Histogram,
-) -> Result<(), AllocError> {
+) -> Result<(), AllocError>
+    ensures { OnOk result
+        (cells_in line.new.items ≡ cells_in line.old.items ++ times_cells part.now times.now) }
+{
     line.push(String::from_str(alloc, part)?)?;
     for percent in [50, 90, 99] {
         line.push(time_text(alloc, times.quantile(percent, 100))?)?;
     }
     line.push(time_text(alloc, times.most())?)?;
-    Ok(())
-}
-
-/// A time with three digits at least, in the greatest unit of which it has one.
-fn time_text(alloc: Global, time: u64) -> Result<String, AllocError> {
-    if time >= 1_000_000_000 {
-        in_unit(alloc, time / 1_000_000, "s")
-    } else if time >= 1_000_000 {
-        in_unit(alloc, time / 1000, "ms")
-    } else if time >= 1000 {
-        in_unit(alloc, time, "µs")
-    } else {
-        format!(in alloc; "{time} ns")
-    }
-}
-
-/// Thousandths of a unit as a number with three digits at least.
-fn in_unit(alloc: Global, thousandths: u64, unit: &str) -> Result<String, AllocError> {
-    let whole = thousandths / 1000;
-    let rest = thousandths % 1000;
-    if whole >= 100 {
-        format!(in alloc; "{whole} {unit}")
-    } else if whole >= 10 {
-        let tenths = rest / 100;
-        format!(in alloc; "{whole}.{tenths} {unit}")
-    } else {
-        let tenths = rest / 100;
-        let hundredths = rest / 10 % 10;
-        format!(in alloc; "{whole}.{tenths}{hundredths} {unit}")
-    }
-}
-
-/// Lines with their columns below one another: names to the left, numbers to the right.
-fn laid_out(alloc: Global, lines: &[Line]) -> Result<String, AllocError> {
-    let widths = widths(alloc, lines)?;
-    let mut text = String::new(alloc);
-    for line in lines {
-        write_line(&mut text, &widths, line)?;
-    }
-    Ok(text)
-}
-
-/// How wide each column is, in characters.
-fn widths(alloc: Global, lines: &[Line]) -> Result<Vec<usize>, AllocError> {
-    let mut widths: Vec<usize> = Vec::new(alloc);
-    for line in lines {
-        for (column, cell) in line.iter().enumerate() {
-            let width = cell.chars().count();
-            if column < widths.len() {
-                widths[column] = widths[column].max(width);
-            } else {
-                widths.push(width)?;
-            }
-        }
-    }
-    Ok(widths)
-}
-
-/// Writes a line, two spaces between its columns.
-fn write_line(text: &mut String, widths: &[usize], line: &[String]) -> Result<(), AllocError> {
-    for (column, cell) in line.iter().enumerate() {
-        if column > 0 {
-            text.push_str("  ")?;
-        }
-        let width = widths.get(column).copied().unwrap_or(0);
-        let free = width.saturating_sub(cell.chars().count());
-        if column < 2 {
-            text.push_str(cell.as_str())?;
-            push_spaces(text, free)?;
-        } else {
-            push_spaces(text, free)?;
-            text.push_str(cell.as_str())?;
-        }
-    }
-    text.push_str("\n")
-}
-
-/// Writes so many spaces.
-fn push_spaces(text: &mut String, count: usize) -> Result<(), AllocError> {
-    for _ in 0..count {
-        text.push(' ')?;
-    }
     Ok(())
 }

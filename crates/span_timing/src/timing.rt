@@ -3,7 +3,7 @@ ghost use Rattle.std.specs.Option.{option_copied, option_to_list};
 ghost use Rattle.std.specs.Prelude.{◌≡◌, ◌++◌, ◌∷◌, [], ℕ, List, IfOk, OnErr, OnOk};
 ghost use Rattle.span_timing.specs.Life.{event_sent, events_of, life_ended, lives_of};
 ghost use Rattle.span_timing.specs.Row.{IsRowOf, IsSameRow};
-ghost use Rattle.span_timing.specs.Timing.{IsTimingOf, events_at, row_at};
+ghost use Rattle.span_timing.specs.Timing.{IsTimingOf, event_callsites, events_at, row_at, span_callsites};
 ghost use Rattle.span_timing.specs.declared.life.Life.{Life};
 
 use crate::histogram::Histogram;
@@ -119,18 +119,18 @@ impl Timing {
         self.events.get(&callsite).copied().unwrap_or(0)
     }
 
-    /// The rows, by the numbers of their callsites.
-    pub(crate) fn rows(&self) -> &BTreeMap<u64, Row>
-        ensures { result.now ≡ self.now.rows }
+    /// The callsites of which spans closed, in the order of their numbers.
+    pub(crate) fn span_callsites(&self) -> Result<Vec<u64>, AllocError>
+        ensures { IfOk result (λ numbers. numbers.items ≡ span_callsites self.now) }
     {
-        &self.rows
+        self.rows.keys().copied().collect(self.alloc)
     }
 
-    /// How often each event came, by the number of its callsite.
-    pub(crate) fn event_counts(&self) -> &BTreeMap<u64, u64>
-        ensures { result.now ≡ self.now.events }
+    /// The callsites that sent events, in the order of their numbers.
+    pub(crate) fn event_callsites(&self) -> Result<Vec<u64>, AllocError>
+        ensures { IfOk result (λ numbers. numbers.items ≡ event_callsites self.now) }
     {
-        &self.events
+        self.events.keys().copied().collect(self.alloc)
     }
 
     /// The same once more.
