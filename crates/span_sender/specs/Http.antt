@@ -1,10 +1,21 @@
 -- Requests and answers by HTTP/1.1.
-use Rattle.std.specs.Prelude.{◌≡◌, ℕ, List, ◌++◌, codes, decimal, ⊤}
+use Rattle.std.specs.Prelude.{◌≡◌, ℕ, List, ◌++◌, Option, codes, decimal, string_bytes, ⊤}
+use Rattle.std.specs.Io.KnownBytes.{Consumes}
 use Rattle.httparse.specs.Grammar.{ReadsResponse, ResponseHead, status_code}
 use Rattle.span_sender.specs.declared.answer.Answer.TheVariants.{Failed, Status}
 use Rattle.span_sender.specs.declared.answer.Answer.{Answer}
 use Rattle.span_sender.specs.declared.http.Heard.TheVariants.{Answered, Unfinished, Wrong}
 use Rattle.span_sender.specs.declared.http.Heard.{Heard}
+use Rattle.span_sender.specs.declared.http.HttpPoster.{HttpPoster}
+
+module _ {N : Type 0} where
+  -- what makes the connections of a poster
+  abbrev pub net_of : HttpPoster N → N
+  net_of poster = poster.net
+
+  -- the host that it posts to
+  abbrev pub host_of : HttpPoster N → List ℕ
+  host_of poster = string_bytes poster.host
 
 -- the head of a request to a host, with so long a body
 abbrev pub request_head : List ℕ → ℕ → List ℕ
@@ -19,6 +30,12 @@ IsAnswerOf bytes (Status code after) =
     (head : ResponseHead) × (rest : List ℕ) × ReadsResponse bytes head rest
     × (code ≡ status_code head)
 IsAnswerOf bytes Failed = ⊥
+
+-- bytes were read that begin with the head of an answer with this status; a reader that is known has
+-- those behind them left
+abbrev pub ReadsAnswer : Option (List ℕ) → Option (List ℕ) → Answer → Type 0
+ReadsAnswer old new answer =
+    (bytes : List ℕ) × Consumes old new bytes × IsAnswerOf bytes answer
 
 -- P of what came, if all of it did
 abbrev pub OnAnswered : Heard → (Answer → Type 0) → Type 0

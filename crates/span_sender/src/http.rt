@@ -1,7 +1,7 @@
 //! Posts by HTTP/1.1, over connections that the caller makes.
 ghost use Rattle.std.specs.Io.KnownBytes.{Appends};
 ghost use Rattle.std.specs.Prelude.{◌≡◌, ◌++◌, IfOk, None, OnOk, string_bytes};
-ghost use Rattle.span_sender.specs.Http.{IsAnswerOf, OnAnswered, request_head};
+ghost use Rattle.span_sender.specs.Http.{IsAnswerOf, OnAnswered, ReadsAnswer, host_of, net_of, request_head};
 
 use crate::answer::Answer;
 use crate::poster::Poster;
@@ -39,7 +39,10 @@ pub struct HttpPoster<N> {
 
 impl<N: Connect> HttpPoster<N> {
     /// Posts to this host, as `localhost:4318`, at `/v1/traces`.
-    pub fn new(alloc: Global, net: N, host: String) -> HttpPoster<N> {
+    pub fn new(alloc: Global, net: N, host: String) -> HttpPoster<N>
+        ensures net { net_of result ≡ net }
+        ensures host { host_of result ≡ string_bytes host }
+    {
         HttpPoster { net, alloc, host }
     }
 
@@ -138,8 +141,11 @@ fn seconds_of(value: &[u8]) -> Option<u64> {
     }
 }
 
-/// Reads the head of an answer.
-pub fn read_answer<C: Read>(alloc: Global, connection: &mut C) -> io::Result<Answer> {
+/// Reads the head of an answer, which has at most `LONGEST_HEAD` bytes.
+pub fn read_answer<C: Read>(alloc: Global, connection: &mut C) -> io::Result<Answer>
+    ensures { IfOk result
+        (ReadsAnswer (C.remaining connection.old) (C.remaining connection.new)) }
+{
     let mut bytes = Vec::new(alloc);
     let mut chunk = [0u8; CHUNK];
     for _ in 0..LONGEST_HEAD {
