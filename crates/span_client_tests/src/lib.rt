@@ -10,6 +10,8 @@ mod export;
 #[cfg(test)]
 mod fixture;
 #[cfg(test)]
+mod folded;
+#[cfg(test)]
 mod guard;
 #[cfg(test)]
 mod law;

@@ -2,9 +2,10 @@
 use Rattle.std.proofs.Common.{◌≡◌, ◌≢◌, ◌∙◌, ◌<◌, ◌+◌, ℕ, List, [], ◌∷◌, ◌++◌, ap, drop, get_or, length, refl, sym, take, if◌then◌else◌, ◌==◌}
 use Rattle.std.proofs.lemmas.List.{drop_more, take_more}
 use Rattle.std.proofs.lemmas.List.Sums.{fold_more}
-use Rattle.span_export.specs.Entry.{entries_after, lasting, spans_in}
+use Rattle.span_export.specs.Entry.{entries_after, lasting}
 use Rattle.span_export.specs.Folded.{Sums, add, last_time, stack_text, stood, stood_in, sums_from}
 use Rattle.span_export.specs.Site.{Named}
+use Rattle.span_export.specs.declared.entry.Entry.{Entry}
 use Rattle.span_times.specs.declared.happening.Point.{Point}
 
 -- one more point goes on with the entries
@@ -24,10 +25,10 @@ stood_some named [] time sums some = absurd (some refl)
 stood_some named (x ∷ stack) time sums some = refl
 
 -- one more point adds to the sums
-pub sums_more : (named : ℕ → Named) (ps : List Point) (i : ℕ) (d : Point) (old new whole : Sums) → i < length ps
-    → new ≡ stood_in named (spans_in (get_or ps i d).lane.0 (lasting (take i ps))) (stood (take i ps) (get_or ps i d)) old
-    → sums_from named old (take i ps) (drop i ps) ≡ whole → sums_from named new (take (i + 1) ps) (drop (i + 1) ps) ≡ whole
-sums_more named ps i d old new whole within now so_far =
-    ap (λ before. sums_from named new before (drop (i + 1) ps)) (take_more ps i d within)
-    ∙ ap (λ sums. sums_from named sums (take i ps ++ get_or ps i d ∷ []) (drop (i + 1) ps)) now
-    ∙ sym (ap (sums_from named old (take i ps)) (drop_more ps i d within)) ∙ so_far
+pub sums_more : (named : ℕ → Named) (stack : ℕ → List Entry → List ℕ) (ps : List Point) (i : ℕ) (d : Point) (old new whole : Sums) → i < length ps
+    → new ≡ stood_in named (stack (get_or ps i d).lane.0 (lasting (take i ps))) (stood (take i ps) (get_or ps i d)) old
+    → sums_from named stack old (take i ps) (drop i ps) ≡ whole → sums_from named stack new (take (i + 1) ps) (drop (i + 1) ps) ≡ whole
+sums_more named stack ps i d old new whole within now so_far =
+    ap (λ before. sums_from named stack new before (drop (i + 1) ps)) (take_more ps i d within)
+    ∙ ap (λ sums. sums_from named stack sums (take i ps ++ get_or ps i d ∷ []) (drop (i + 1) ps)) now
+    ∙ sym (ap (sums_from named stack old (take i ps)) (drop_more ps i d within)) ∙ so_far

@@ -1,5 +1,5 @@
 -- The entries of lanes into spans that last, by points.
-use Rattle.std.specs.Prelude.{◌==◌, ◌&&◌, ℕ, Bool, if◌then◌else◌, not, List, [], ◌∷◌, ◌++◌, filter, fold, map}
+use Rattle.std.specs.Prelude.{◌==◌, ◌&&◌, ℕ, Bool, if◌then◌else◌, not, List, [], ◌∷◌, ◌++◌, None, Option, Some, filter, fold, map}
 use Rattle.std.specs.List.{list_any}
 use Rattle.span_core.specs.Span.{number_of}
 use Rattle.span_export.specs.declared.entry.Entry.{Entry}
@@ -63,3 +63,8 @@ with_span lane xs e =
 -- the spans that a lane is in, outermost first, each once
 abbrev pub spans_in : ℕ → List Entry → List ℕ
 spans_in lane es = fold (with_span lane) [] es
+
+-- the span of a lane's newest entry, if the lane has one
+abbrev pub newest_span : ℕ → List Entry → Option ℕ
+newest_span lane es =
+    fold (λ newest e. if is_on lane e then Some (number_of e.span) else newest) None es

@@ -9,7 +9,9 @@ use Rattle.span_times.specs.declared.kept.Table.{Table}
 use Rattle.span_export.specs.Entry.{lasting, spans_in}
 use Rattle.span_export.specs.Escape.{replace}
 use Rattle.span_export.specs.Given.{given_shown}
+use Rattle.span_export.specs.Scope.{scope_of, scope_on}
 use Rattle.span_export.specs.Site.{Named, called, named_in}
+use Rattle.span_export.specs.declared.entry.Entry.{Entry}
 
 -- names with semicolons between
 abbrev pub frames_text : List (List ℕ) → List ℕ
@@ -55,25 +57,30 @@ abbrev pub stood_in : (ℕ → Named) → List ℕ → ℕ → Sums → Sums
 stood_in named [] time sums = sums
 stood_in named (x ∷ stack) time sums = add (stack_text named (x ∷ stack)) time sums
 
--- each of these points adds how long its lane stood in its stack up to there; these stand before
--- them
-abbrev pub sums_from : (ℕ → Named) → Sums → List Point → List Point → Sums
-sums_from named sums before [] = sums
-sums_from named sums before (p ∷ rest) =
-    sums_from named (stood_in named (spans_in p.lane.0 (lasting before)) (stood before p) sums)
-    (before ++ p ∷ []) rest
+-- each of these points adds how long its lane stood in its stack up to there, as this has it; these
+-- stand before them
+abbrev pub sums_from
+    : (ℕ → Named) → (ℕ → List Entry → List ℕ) → Sums → List Point → List Point → Sums
+sums_from named stack sums before [] = sums
+sums_from named stack sums before (p ∷ rest) =
+    sums_from named stack
+    (stood_in named (stack p.lane.0 (lasting before)) (stood before p) sums) (before ++ p ∷ []) rest
 
 -- how long lanes stood in each stack, with these fields
-abbrev pub sums_of : Table → List Point → Sums
-sums_of table ps = sums_from (named_in table ps) [] [] ps
+abbrev pub sums_of : (ℕ → List Entry → List ℕ) → Table → List Point → Sums
+sums_of stack table ps = sums_from (named_in table ps) stack [] [] ps
 
 -- a stack, and behind a space how long
 abbrev pub line_text : List ℕ × ℕ → List ℕ
 line_text s = s.0 ++ codes " " ++ decimal s.1 ++ codes "\n"
 
--- a line for each stack
+-- a line for each stack of spans that a lane entered
 abbrev pub folded : Table → List Point → List ℕ
-folded table ps = flat_map line_text (sums_of table ps)
+folded table ps = flat_map line_text (sums_of spans_in table ps)
+
+-- a line for each scope that a lane was in
+abbrev pub scopes_folded : Table → List Point → List ℕ
+scopes_folded table ps = flat_map line_text (sums_of (scope_on (scope_of ps)) table ps)
 
 -- a time that counts where a lane is in some span
 abbrev pub in_spans : List ℕ → ℕ → ℕ
@@ -93,8 +100,9 @@ abbrev pub time_in_spans : List Point → ℕ
 time_in_spans ps = time_from [] ps
 
 -- all lines together have all the time that lanes were in spans, whatever these are called, if it
--- fits
+-- fits: by entries and by scopes
 abbrev pub LinesHaveAllTime : Type 0
 LinesHaveAllTime =
     (table : Table) (ps : List Point) → time_in_spans ps < 2 ^ 64
-    → sum_by (λ s. s.1) (sums_of table ps) ≡ time_in_spans ps
+    → (sum_by (λ s. s.1) (sums_of spans_in table ps) ≡ time_in_spans ps)
+    × (sum_by (λ s. s.1) (sums_of (scope_on (scope_of ps)) table ps) ≡ time_in_spans ps)

@@ -9,7 +9,9 @@ pub mod Moment
 pub mod Page
 pub mod Picture
 pub mod Scale
+pub mod Scope
 pub mod Site
 pub mod Sums
 pub mod Value
 pub mod When
+pub mod private

@@ -1,7 +1,8 @@
 //! The entries of lanes into spans that last.
+ghost use Rattle.std.specs.Option.{option_map};
 ghost use Rattle.std.specs.Prelude.{◌≡◌, IfOk, OnOk, map};
 ghost use Rattle.span_core.specs.Span.{number_of};
-ghost use Rattle.span_export.specs.Entry.{entries_after, is_of, left, since_newest, since_oldest, spans_in, spans_on};
+ghost use Rattle.span_export.specs.Entry.{entries_after, is_of, left, newest_span, since_newest, since_oldest, spans_in, spans_on};
 
 use span_core::{Id, Lane};
 use span_times::{Happening, Point};
@@ -103,4 +104,17 @@ pub(crate) fn spans_in(alloc: Global, entries: &[Entry], lane: Lane) -> Result<V
         }
     }
     Ok(spans)
+}
+
+/// The span of a lane's newest entry, if the lane has one.
+pub(crate) fn newest_span(entries: &[Entry], lane: Lane) -> Option<Id>
+    ensures { option_map number_of result ≡ newest_span lane.0 entries.now }
+{
+    let mut newest = None;
+    for entry in entries {
+        if entry.lane == lane {
+            newest = Some(entry.span);
+        }
+    }
+    newest
 }

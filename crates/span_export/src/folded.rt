@@ -4,15 +4,17 @@ ghost use Rattle.std.specs.Ordering.{nat_cmp};
 ghost use Rattle.std.specs.Prelude.{◌≡◌, ◌++◌, IfOk, List, OnOk, decimal, flat_map, map, string_bytes};
 ghost use Rattle.span_core.specs.Span.{number_of};
 ghost use Rattle.span_times.specs.declared.happening.Point.{Point};
-ghost use Rattle.span_export.specs.Folded.{add, folded, frame_name, line_text, stack_frame, stack_text, sums_of};
+ghost use Rattle.span_export.specs.Folded.{add, folded, frame_name, line_text, scopes_folded, stack_frame, stack_text, sums_of};
 ghost use Rattle.span_export.specs.Site.{named_by, named_so};
 ghost use Rattle.span_export.specs.Sums.{sums_in};
+ghost use Rattle.span_export.specs.private.Scopes.{stacks_by};
 
-use crate::entry::{go_on, spans_in};
+use crate::entry::{Entry, go_on, newest_span, spans_in};
 use crate::escape::replaced;
 use crate::given::write_given;
+use crate::scope::{Scopes, scope, scopes};
 use crate::site::{Name, Spans};
-use span_core::Id;
+use span_core::{Id, Lane};
 use span_fmt::write_escaped;
 use span_times::{Point, Table};
 use std::alloc::{AllocError, Global};
@@ -31,14 +33,68 @@ type Sums = BTreeMap<String, u64>;
 /// leaves it by that; what such a lane stood since its last point counts without the span.
 ///
 /// A stack has the spans that its lane is in, whatever their parents: a span that is entered on
-/// another lane than its parent is outermost there, as a root is.
+/// another lane than its parent is outermost there, as a root is. `folded_scopes` has the parents.
 ///
 /// Names are escaped, as `span_fmt::write_escaped` has them, and a semicolon as `\u{3b}`. A
 /// space is written as `_`, and an empty name as `\u{}`.
 pub fn folded_text(alloc: Global, points: &[Point], table: Table<'_>) -> Result<String, AllocError>
     ensures { IfOk result (λ text. string_bytes text ≡ folded table.entry points.now) }
 {
-    let sums = sum_up(alloc, points, table)?;
+    let sums = sum_up(alloc, points, table, Stacks::Entered)?;
+    lines(alloc, &sums)
+}
+
+/// These points as folded stacks, as `folded_text` has them, but by scope: a stack has the span
+/// that its lane entered last and hasn't left, and all spans above that, whichever lanes these were
+/// entered on, and whether they closed since.
+///
+/// Which spans are above one is by its opening among the points, and by theirs. One that isn't
+/// opened there stands outermost, and as `?`.
+///
+/// Stands for the stacks of the crate `tracing-flame`.
+pub fn folded_scopes(
+    alloc: Global,
+    points: &[Point],
+    table: Table<'_>,
+) -> Result<String, AllocError>
+    ensures { IfOk result
+        (λ text. string_bytes text ≡ scopes_folded table.entry points.now) }
+{
+    let scopes = scopes(alloc, points)?;
+    let sums = sum_up(alloc, points, table, Stacks::Scoped(&scopes))?;
+    lines(alloc, &sums)
+}
+
+/// Which spans are in a lane's stack.
+#[derive(Clone, Copy)]
+pub(crate) enum Stacks<'a> {
+    /// Those that the lane entered.
+    Entered,
+    /// The scope of the one that it entered last.
+    Scoped(&'a Scopes),
+}
+
+impl Stacks<'_> {
+    /// The spans in the stack of a lane, by the entries that last.
+    fn of(self, alloc: Global, entries: &[Entry], lane: Lane) -> Result<Vec<Id>, AllocError>
+        ensures { IfOk result (λ stack. map number_of stack.items
+            ≡ stacks_by self.entry lane.0 entries.now) }
+    {
+        match self {
+            Stacks::Entered => spans_in(alloc, entries, lane),
+            Stacks::Scoped(scopes) => match newest_span(entries, lane) {
+                Some(span) => scope(alloc, scopes, span),
+                None => Ok(Vec::new(alloc)),
+            },
+        }
+    }
+}
+
+/// A line for each of these sums.
+fn lines(alloc: Global, sums: &Sums) -> Result<String, AllocError>
+    ensures { IfOk result
+        (λ text. string_bytes text ≡ flat_map line_text (sums_in sums.now)) }
+{
     let mut text = String::new(alloc);
     for (stack, time) in sums.iter() {
         writeln!(text, "{stack} {time}")?;
@@ -47,15 +103,21 @@ pub fn folded_text(alloc: Global, points: &[Point], table: Table<'_>) -> Result<
 }
 
 /// How long lanes stood in each stack.
-fn sum_up(alloc: Global, points: &[Point], table: Table<'_>) -> Result<Sums, AllocError>
-    ensures { IfOk result (λ sums. sums_in sums ≡ sums_of table.entry points.now) }
+fn sum_up(
+    alloc: Global,
+    points: &[Point],
+    table: Table<'_>,
+    stacks: Stacks<'_>,
+) -> Result<Sums, AllocError>
+    ensures { IfOk result
+        (λ sums. sums_in sums ≡ sums_of (stacks_by stacks.entry) table.entry points.now) }
 {
     let spans = Spans::of(alloc, points, table)?;
     let mut sums = BTreeMap::new(alloc);
     let mut entries = Vec::new(alloc);
     let mut times: BTreeMap<u32, u64> = BTreeMap::new(alloc);
     for point in points {
-        let stack = spans_in(alloc, &entries, point.lane)?;
+        let stack = stacks.of(alloc, &entries, point.lane)?;
         if !stack.is_empty() {
             let since = times.get(&point.lane.0).copied().unwrap_or(0);
             let text = text_of(alloc, &spans, &stack)?;

@@ -13,12 +13,13 @@ pub mod given;
 pub mod laws;
 mod page;
 mod picture;
+mod scope;
 pub mod site;
 mod stay;
 pub mod value;
 mod when;
 
 pub use chrome::{chrome_lines, chrome_text};
-pub use folded::folded_text;
+pub use folded::{folded_scopes, folded_text};
 pub use page::{PAGE_HEAD, PAGE_TAIL, timeline_page};
 pub use picture::timeline_svg;

@@ -6,7 +6,7 @@ use Rattle.std.specs.declared.alloc.Global.{Global}
 use Rattle.span_dispatch.specs.Contract.{SubscriberOf}
 use Rattle.span_dispatch.specs.declared.request.Request.{Request}
 use Rattle.span_export.specs.Chrome.{trace_of}
-use Rattle.span_export.specs.Folded.{folded}
+use Rattle.span_export.specs.Folded.{folded, scopes_folded}
 use Rattle.span_export.specs.Json.{AreCompact, Means}
 use Rattle.span_otlp.specs.Otlp.{AllMean, requests_of}
 use Rattle.span_export.specs.Page.{IsPage}
@@ -21,7 +21,7 @@ use Rattle.span_script.specs.Script.{AskFor, IsSpelled}
 use Rattle.span_script.specs.declared.line.Line.{Line}
 use Rattle.span_script.specs.declared.stack_name.StackName.{StackName}
 use Rattle.span_show.specs.Serve.{IsStreamed, IsToldOf, WithStream}
-use Rattle.span_show.specs.declared.format.Export.TheVariants.{Chrome, Folded, Otlp, Page, Svg}
+use Rattle.span_show.specs.declared.format.Export.TheVariants.{Chrome, Folded, Otlp, Page, Scopes, Svg}
 use Rattle.span_show.specs.declared.format.Export.{Export}
 use Rattle.span_show.specs.declared.format.Format.TheVariants.{Lines, Points, Tree}
 use Rattle.span_show.specs.declared.format.Format.{Format}
@@ -38,6 +38,7 @@ format_word Lines = codes "lines"
 format_word (Points Chrome) = codes "chrome"
 format_word (Points Otlp) = codes "otlp"
 format_word (Points Folded) = codes "folded"
+format_word (Points Scopes) = codes "scopes"
 format_word (Points Svg) = codes "svg"
 format_word (Points Page) = codes "page"
 
@@ -68,6 +69,7 @@ abbrev pub IsExport : Export → Table → List Point → List ℕ → Type 0
 IsExport Chrome table points text = Means text (trace_of table points)
 IsExport Otlp table points text = IsOtlp table points text
 IsExport Folded table points text = text ≡ folded table points
+IsExport Scopes table points text = text ≡ scopes_folded table points
 IsExport Svg table points text = IsPicture text table points 960
 IsExport Page table points text = IsPage text table points 1000000
 

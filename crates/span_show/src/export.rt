@@ -4,7 +4,7 @@ ghost use Rattle.span_show.specs.Show.{IsExport, line_of};
 
 use crate::fault::ShowFault;
 use crate::format::Export;
-use span_export::{chrome_text, folded_text, timeline_page, timeline_svg};
+use span_export::{chrome_text, folded_scopes, folded_text, timeline_page, timeline_svg};
 use span_otlp::{Trace, otlp_lines};
 use span_times::{Point, Table};
 use std::alloc::{AllocError, Global};
@@ -28,6 +28,7 @@ pub(crate) fn export(
         Export::Chrome => chrome_text(alloc, points, table),
         Export::Otlp => otlp_text(alloc, points, table),
         Export::Folded => folded_text(alloc, points, table),
+        Export::Scopes => folded_scopes(alloc, points, table),
         Export::Svg => timeline_svg(alloc, points, table, WIDTH),
         Export::Page => timeline_page(alloc, points, table, PAGE_WIDTH),
     }

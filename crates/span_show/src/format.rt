@@ -22,6 +22,8 @@ pub enum Export {
     Otlp,
     /// Folded stacks, of which flame graphs are made.
     Folded,
+    /// Folded stacks by scope.
+    Scopes,
     /// A picture.
     Svg,
     /// A picture in a page, to zoom and search.
@@ -40,6 +42,7 @@ impl Format {
             "chrome" => Some(Format::Points(Export::Chrome)),
             "otlp" => Some(Format::Points(Export::Otlp)),
             "folded" => Some(Format::Points(Export::Folded)),
+            "scopes" => Some(Format::Points(Export::Scopes)),
             "svg" => Some(Format::Points(Export::Svg)),
             "page" => Some(Format::Points(Export::Page)),
             _ => None,

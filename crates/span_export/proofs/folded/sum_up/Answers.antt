@@ -6,16 +6,18 @@ use Rattle.span_export.proofs.Entries.{none_there, some_there}
 use Rattle.span_export.proofs.Summing.{entries_more, stood_some, sums_more, time_more}
 use Rattle.span_export.proofs.folded.sum_up.Goals as goal
 use Rattle.span_export.proofs.folded.sum_up.Goals.{then-not-is_empty+in_ok-text+in_ok-add, else-not-is_empty}
-use Rattle.span_export.specs.Entry.{entries_after, lasting, spans_in}
+use Rattle.span_export.specs.Entry.{entries_after, lasting}
 use Rattle.span_export.specs.Folded.{add, last_time, stack_text, stood, stood_in, sums_from}
 use Rattle.span_export.specs.Site.{Named, named_by, named_in}
 use Rattle.span_export.specs.Sums.{sums_in}
+use Rattle.span_export.specs.private.Scopes.{stacks_by}
 use Rattle.span_times.specs.declared.happening.Happening.TheVariants.{Opened}
 use Rattle.span_times.specs.declared.happening.Point.{Point}
 
 pub loop-point-preserved : goal.loop-point-preserved
 loop-point-preserved c =
     let named = named_by c.in_ok-spans.spans in
+    let by = stacks_by c.args.stacks in
     let ps = c.args.points.now in
     let i = c.loop-point.point-index in
     let within : i < length ps = omega arith in
@@ -24,8 +26,8 @@ loop-point-preserved c =
     let before = take i ps in
     let ids = c.in_ok-stack.stack.items in
     let stack = map number_of ids in
-    let same : stack ≡ spans_in p.lane.0 (lasting before) =
-    c.in_ok-stack.ensures ∙ ap (spans_in p.lane.0) (c.deref.ensures.value ∙ c.loop-point.invariant.entries) in
+    let same : stack ≡ by p.lane.0 (lasting before) =
+    c.in_ok-stack.ensures ∙ ap (by p.lane.0) (c.deref.ensures.value ∙ c.loop-point.invariant.entries) in
     let since = c.loop-point.invariant.times p.lane.0 in
     let old = sums_in c.loop-point.sums in
     let shown : sums_in c.if-not-is_empty.sums ≡ stood_in named stack (stood before p) old =
@@ -51,15 +53,16 @@ loop-point-preserved c =
           let old = c.loop-point.invariant.times lane in
           grind (arith, common_steps);
       sums =
-          sums_more named
-          ps i none (sums_in c.loop-point.sums) (sums_in c.if-not-is_empty.sums) (sums_from named [] [] ps) within now c.loop-point.invariant.sums;
+          sums_more named by
+          ps i none (sums_in c.loop-point.sums) (sums_in c.if-not-is_empty.sums) (sums_from named by [] [] ps) within now c.loop-point.invariant.sums;
     }
 
 pub returns : goal.returns
 returns c =
     let ps = c.args.points.now in
     let named = named_by c.in_ok-spans.spans in
+    let by = stacks_by c.args.stacks in
     let same : named ≡ named_in c.args.table ps = λ j x. c.in_ok-spans.ensures x j in
     let sums = sums_in c.loop-point.sums in
-    sym (ap (sums_from named sums (take c.loop-point.point-index ps)) (drop_all c.loop-point.point-index ps (omega arith)))
-    ∙ c.loop-point.invariant.sums ∙ ap (λ (n : ℕ → Named). sums_from n [] [] ps) same
+    sym (ap (sums_from named by sums (take c.loop-point.point-index ps)) (drop_all c.loop-point.point-index ps (omega arith)))
+    ∙ c.loop-point.invariant.sums ∙ ap (λ (n : ℕ → Named). sums_from n by [] [] ps) same
