@@ -1,10 +1,13 @@
 mod AllTime
+mod Bands
 mod Boxes
 pub mod CallerLemmas
+mod Counts
 mod Depth
 mod Ended
 mod Entries
 mod Events
+mod Fits
 mod Joined
 mod Names
 mod Nest
@@ -12,6 +15,7 @@ mod Phases
 mod Places
 mod Put
 mod Replaced
+mod Rows
 mod Style
 mod Summing
 mod Sums

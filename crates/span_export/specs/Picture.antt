@@ -1,9 +1,11 @@
 -- Points as a picture: a box for each time that a lane is in a span.
-use Rattle.std.specs.Prelude.{◌≡◌, ◌≤◌, ◌+◌, ◌-◌, ◌*◌, ◌/◌, ◌&&◌, ◌==◌, ℕ, Bool, if◌then◌else◌, max, nat_le, List, [], ◌∷◌, ◌++◌, None, Some, codes, decimal, flat_map, fold, is_none, length, map, unwrap_or}
+use Rattle.std.specs.Prelude.{◌≡◌, ◌≤◌, ◌<◌, ◌+◌, ◌-◌, ◌*◌, ◌/◌, ◌&&◌, ◌==◌, ℕ, Bool, true, AllPairs, IsTrue, if◌then◌else◌, max, nat_le, nat_lt, List, [], ◌∷◌, ◌++◌, None, Some, codes, decimal, flat_map, fold, is_none, is_some, length, map, unwrap_or}
 use Rattle.std.specs.BTreeMap.{BTreeMap, get}
 use Rattle.std.specs.List.{AllByRecursion, list_any}
+use Rattle.std.specs.Option.{option_map_or}
 use Rattle.std.specs.Ordering.{nat_cmp}
 use Rattle.span_core.specs.Span.{number_of}
+use Rattle.span_times.specs.Clock.{NeverGoBack}
 use Rattle.span_times.specs.Measure.{capped}
 use Rattle.span_times.specs.declared.happening.Happening.TheVariants.{Closed, Entered, Left, Sent}
 use Rattle.span_times.specs.declared.happening.Happening.{Happening}
@@ -135,18 +137,56 @@ marks_text table scale top ps = flat_map (λ p. mark_of table scale (top p.lane.
 abbrev pub top_in : BTreeMap ℕ ℕ → ℕ → ℕ
 top_in tops lane = unwrap_or (get nat_cmp tops lane) 0
 
--- a box is within this width
-abbrev pub IsInside : ℕ → Area → Type 0
-IsInside width area = area.x + area.width ≤ width
+-- some point is on this lane
+abbrev pub has_points : List Point → ℕ → Bool
+has_points ps lane = list_any (λ p. p.lane.0 == lane) ps
 
--- a text is a picture of points: in the frame of some plan the boxes of all stays, each within the
--- width, and the marks of all events
+-- where a plan has the box of a stay
+abbrev pub place_of : List Point → ℕ → Plan → Stay → Area
+place_of ps width plan s = area_of (scale_of ps width) (top_in plan.tops s.lane.0) s
+
+-- the second stay begins while the first lasts, on the same lane
+abbrev pub begins_within : Stay → Stay → Bool
+begins_within s t = s.lane.0 == t.lane.0 && option_map_or (nat_lt t.entered) s.left true
+
+-- lanes with points, and no others, have bands between their tops and these bottoms: below the
+-- head, with room for marks and a name, within the height, and below those of smaller numbers
+pub record HasBands (plan : Plan) (ps : List Point) (bottom : ℕ → ℕ) : Type 0 where
+  pub lanes : (lane : ℕ) → is_some (get nat_cmp plan.tops lane) ≡ has_points ps lane
+  pub inside : (lane : ℕ) → IsTrue (has_points ps lane)
+      → (56 ≤ top_in plan.tops lane) × (top_in plan.tops lane + 40 ≤ bottom lane)
+      × (bottom lane ≤ plan.height)
+  pub apart : (a b : ℕ) → IsTrue (has_points ps a) → IsTrue (has_points ps b) → a < b
+      → bottom a + 4 ≤ top_in plan.tops b
+
+-- a box lies within this width, and in the band between these, below its marks
+pub record IsInBand (width top bottom : ℕ) (area : Area) : Type 0 where
+  pub across : area.x + area.width ≤ width
+  pub below : top + 16 ≤ area.y
+  pub above : area.y + 20 ≤ bottom
+
+-- a plan fits a picture of points: boxes lie in the bands of their lanes; one that begins while
+-- another of its lane lasts lies in a row below that, if time never goes back; later times lie no
+-- further left; and the lines of the axis reach as far as the points
+pub record FitsPicture (plan : Plan) (ps : List Point) (width : ℕ) : Type 0 where
+  pub bottom : ℕ → ℕ
+  pub bands : HasBands plan ps bottom
+  pub boxes : AllByRecursion (λ s. IsInBand (max width 320) (top_in plan.tops s.lane.0)
+      (bottom s.lane.0) (place_of ps width plan s)) (stays_of ps)
+  pub rows : NeverGoBack 0 (map (λ p. p.time) ps)
+      → AllPairs (λ s t. IsTrue (begins_within s t)
+      → (place_of ps width plan s).y + 24 ≤ (place_of ps width plan t).y) (stays_of ps)
+  pub times : (early late : ℕ) → early ≤ late
+      → x_at (scale_of ps width) early ≤ x_at (scale_of ps width) late
+  pub axis : (scale_of ps width).finish - (scale_of ps width).begin < plan.step * 9
+
+-- a text is a picture of points: in the frame of a plan that fits them the boxes of all stays and
+-- the marks of all events
 pub record IsPicture (text : List ℕ) (table : Table) (ps : List Point) (width : ℕ)
     : Type 0 where
   pub plan : Plan
+  pub fits : FitsPicture plan ps width
   pub shows : text
       ≡ frame_text (scale_of ps width) plan
       ++ boxes_text (named_in table ps) (scale_of ps width) (top_in plan.tops) (stays_of ps)
       ++ marks_text table (scale_of ps width) (top_in plan.tops) ps ++ codes "</svg>\n"
-  pub inside : AllByRecursion (λ s. IsInside (max width 320)
-      (area_of (scale_of ps width) (top_in plan.tops s.lane.0) s)) (stays_of ps)

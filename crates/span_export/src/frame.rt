@@ -1,10 +1,14 @@
 //! What stands round the boxes of a picture: the axis of time, the names of lanes, what the colours
 //! mean.
-ghost use Rattle.std.specs.Prelude.{◌≡◌, ◌++◌, IfOk, OnOk, string_bytes};
+ghost use Rattle.std.specs.BTreeMap.{get};
+ghost use Rattle.std.specs.Ordering.{nat_cmp};
+ghost use Rattle.std.specs.Prelude.{◌≡◌, ◌<◌, ◌*◌, ◌++◌, ℕ, IfOk, OnOk, string_bytes};
 ghost use Rattle.span_export.specs.Frame.{axis_text, frame_text, head_in, head_text, lane_text, lanes_text, style, tag_text, time_line, tick_text, time_text};
+ghost use Rattle.span_export.specs.private.Plan.{IsPlanOf, rows_in, rows_on};
 
 use crate::picture::Scale;
 use crate::stay::Stay;
+use span_core::Lane;
 use span_times::Point;
 use std::alloc::{AllocError, Global};
 use std::collections::BTreeMap;
@@ -70,7 +74,9 @@ impl Plan {
         scale: &Scale,
         points: &[Point],
         stays: &[Stay],
-    ) -> Result<Plan, AllocError> {
+    ) -> Result<Plan, AllocError>
+        ensures { IfOk result (λ plan. IsPlanOf plan scale.now points.now stays.now) }
+    {
         let rows = rows(alloc, points, stays)?;
         let mut tops = BTreeMap::new(alloc);
         let mut height = HEAD;
@@ -88,17 +94,31 @@ impl Plan {
     }
 }
 
-/// How many rows each lane has, at least one.
-fn rows(alloc: Global, points: &[Point], stays: &[Stay]) -> Result<Tops, AllocError> {
-    let mut rows: BTreeMap<u32, u64> = BTreeMap::new(alloc);
+/// How many rows each lane that has points has.
+fn rows(alloc: Global, points: &[Point], stays: &[Stay]) -> Result<Tops, AllocError>
+    ensures { IfOk result
+        (λ rows. (lane : ℕ) → get nat_cmp rows lane ≡ rows_in points.now stays.now lane) }
+{
+    let mut rows = BTreeMap::new(alloc);
     for point in points {
-        rows.insert(point.lane.0, 1)?;
-    }
-    for stay in stays {
-        let count = rows.get(&stay.lane.0).copied().unwrap_or(1);
-        rows.insert(stay.lane.0, count.max(stay.depth.saturating_add(1)))?;
+        if !rows.contains_key(&point.lane.0) {
+            rows.insert(point.lane.0, rows_on(stays, point.lane))?;
+        }
     }
     Ok(rows)
+}
+
+/// How many rows a lane has: as many as its deepest stay needs, and at least one.
+fn rows_on(stays: &[Stay], lane: Lane) -> u64
+    ensures { result ≡ rows_on lane.0 stays.now }
+{
+    let mut rows = 1u64;
+    for stay in stays {
+        if stay.lane == lane {
+            rows = rows.max(stay.depth.saturating_add(1));
+        }
+    }
+    rows
 }
 
 /// All that stands round boxes and marks.
@@ -184,12 +204,14 @@ fn write_line(text: &mut String, time: &str, x: u64, height: u64) -> Result<(), 
 }
 
 /// One, two or five times a power of ten: the least of which at most eight fit into a time.
-fn step(span: u64) -> u64 {
+fn step(span: u64) -> u64
+    ensures { span < result * 9 }
+{
     let mut power = 1u64;
     for _ in 0..20 {
         for times in [1, 2, 5] {
-            let step = power.saturating_mul(times);
-            if span / step.max(1) <= 8 {
+            let step = power.saturating_mul(times).max(1);
+            if span / step <= 8 {
                 return step;
             }
         }
