@@ -14,6 +14,8 @@ mod folded;
 #[cfg(test)]
 mod guard;
 #[cfg(test)]
+mod hostile;
+#[cfg(test)]
 mod law;
 #[cfg(test)]
 mod logger;
