@@ -20,7 +20,7 @@ refuted true e = cc
 -- ---- what a reader skips
 
 -- ends within no pair of a backslash and what it guards, and has no other quote
-abbrev skips : Bool → List ℕ → Bool
+abbrev pub skips : Bool → List ℕ → Bool
 skips guarded [] = not guarded
 skips true (b ∷ bytes) = skips false bytes
 skips false (b ∷ bytes) = not (b == 34) && skips (b == 92) bytes
@@ -46,19 +46,19 @@ clean (b ∷ bytes) h =
 
 -- ---- what is written of a character is skipped
 
-abbrev is_ascii : ℕ → Bool
+abbrev pub is_ascii : ℕ → Bool
 is_ascii c = is_among 0 127 c
 
-encoded : (cs : List ℕ) → list_all is_ascii cs ≡ true → encode_utf8_all cs ≡ cs
+pub encoded : (cs : List ℕ) → list_all is_ascii cs ≡ true → encode_utf8_all cs ≡ cs
 encoded [] h = refl
 encoded (c ∷ cs) h =
     let low = first_of (is_ascii c) (list_all is_ascii cs) h in
     (λ i. encode_ascii c (grind (arith, nat_tests)) i ++ encoded cs (second_of (is_ascii c) (list_all is_ascii cs) h) i)
 
-abbrev is_skipped : ℕ → Bool
+abbrev pub is_skipped : ℕ → Bool
 is_skipped c = list_all is_ascii (escape_default c) && skips false (escape_default c)
 
-all_skipped : Passes is_skipped
+pub all_skipped : Passes is_skipped
 all_skipped = record { slash = refl; low = refl; high = refl; letter = refl; marks = refl; lines = refl; apart = refl }
 
 ascii_skipped : (cs : List ℕ) → list_all is_ascii cs ≡ true → skips false cs ≡ true → skips false (encode_utf8_all cs) ≡ true
@@ -70,7 +70,7 @@ plain_skipped c no_quote no_slash =
     inside_one c [] (encode_utf8 c) k (sym (append-nil (encode_utf8 c))) low (omega (arith, e, ascii)) ∙ e in
     clean (encode_utf8 c) (λ k low. (λ e. no_quote (byte 34 k low e (omega arith)), λ e. no_slash (byte 92 k low e (omega arith))))
 
-one_skipped : (c : ℕ) (quote escaped : Bool) → c == 34 ≡ quote → is_escaped c ≡ escaped
+pub one_skipped : (c : ℕ) (quote escaped : Bool) → c == 34 ≡ quote → is_escaped c ≡ escaped
     → skips false (encode_utf8_all (if quote then codes "\\\"" else (if escaped then escape_default c else c ∷ []))) ≡ true
 one_skipped c true escaped is by = ascii_skipped (codes "\\\"") refl refl
 one_skipped c false true is by =

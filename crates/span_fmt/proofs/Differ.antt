@@ -12,7 +12,7 @@ use Rattle.span_fmt.proofs.Runs.{Passes, first_of, passed, run, second_of}
 
 -- ---- no escape begins another, nor a character that stays
 
-abbrev starts : List ℕ → List ℕ → Bool
+abbrev pub starts : List ℕ → List ℕ → Bool
 starts [] ys = true
 starts (x ∷ xs) [] = false
 starts (x ∷ xs) (y ∷ ys) = x == y && starts xs ys
@@ -55,17 +55,17 @@ all_told = record { slash = refl; low = refl; high = refl; letter = refl; marks 
 told : (c d : ℕ) → is_escaped c ≡ true → is_escaped d ≡ true → tells c d ≡ true
 told c d p q = passed (tells c) (each c (passed tells_all all_told c p)) d q
 
-cons_head : {x y : ℕ} {xs ys : List ℕ} → (x ∷ xs) ≡ (y ∷ ys) → x ≡ y
+pub cons_head : {x y : ℕ} {xs ys : List ℕ} → (x ∷ xs) ≡ (y ∷ ys) → x ≡ y
 cons_head e = cc
 
-cons_tail : {x y : ℕ} {xs ys : List ℕ} → (x ∷ xs) ≡ (y ∷ ys) → xs ≡ ys
+pub cons_tail : {x y : ℕ} {xs ys : List ℕ} → (x ∷ xs) ≡ (y ∷ ys) → xs ≡ ys
 cons_tail e = cc
 
-cons_nil : {x : ℕ} {xs : List ℕ} → (x ∷ xs) ≢ []
+pub cons_nil : {x : ℕ} {xs : List ℕ} → (x ∷ xs) ≢ []
 cons_nil e = cc
 
 -- two that stand at the beginning of one text: one begins the other
-one_starts : (xs ys r s : List ℕ) → xs ++ r ≡ ys ++ s → (starts xs ys ≡ true) ⊎ (starts ys xs ≡ true)
+pub one_starts : (xs ys r s : List ℕ) → xs ++ r ≡ ys ++ s → (starts xs ys ≡ true) ⊎ (starts ys xs ≡ true)
 one_starts [] ys r s e = inl refl
 one_starts (x ∷ xs) [] r s e = inr refl
 one_starts (x ∷ xs) (y ∷ ys) r s e =
@@ -97,16 +97,16 @@ no_other c d r s p q e =
     let same : 92 ≡ d = cons_head (sym (ap (λ xs. xs ++ r) slash.1) ∙ e) in
     true≢false (ap is_escaped same ∙ q)
 
-abbrev by : Bool → ℕ → List ℕ
+abbrev pub by : Bool → ℕ → List ℕ
 by b c = if b then escape_default c else c ∷ []
 
-one_alike : (c d : ℕ) (r s : List ℕ) (p q : Bool) → is_escaped c ≡ p → is_escaped d ≡ q → by p c ++ r ≡ by q d ++ s → c ≡ d
+pub one_alike : (c d : ℕ) (r s : List ℕ) (p q : Bool) → is_escaped c ≡ p → is_escaped d ≡ q → by p c ++ r ≡ by q d ++ s → c ≡ d
 one_alike c d r s true true p q e = same_escapes c d r s p q e
 one_alike c d r s true false p q e = absurd (no_other c d r s p q e)
 one_alike c d r s false true p q e = absurd (no_other d c s r q p (sym e))
 one_alike c d r s false false p q e = cons_head e
 
-filled : (c : ℕ) (r : List ℕ) (p : Bool) → is_escaped c ≡ p → (by p c ++ r) ≢ []
+pub filled : (c : ℕ) (r : List ℕ) (p : Bool) → is_escaped c ≡ p → (by p c ++ r) ≢ []
 filled c r true p e = let slash = with_slash (escape_default c) (passed (λ c. has_slash (escape_default c)) slashes c p) in
     cons_nil (sym (ap (λ xs. xs ++ r) slash.1) ∙ e)
 filled c r false p e = cons_nil e

@@ -1,6 +1,7 @@
 mod Around
 pub mod CallerLemmas
 mod Bare
+pub mod Between
 mod Filled
 mod Given
 mod Noticed

@@ -1,3 +1,4 @@
+pub mod Between
 pub mod Escape
 pub mod Form
 pub mod Forms

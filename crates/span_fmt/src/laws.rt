@@ -1,4 +1,5 @@
 //! Laws for callers: functions whose contract is the law, and that do nothing.
+ghost use Rattle.span_fmt.specs.Between.{LinesTellTheirTexts};
 ghost use Rattle.span_fmt.specs.Escape.{EscapedTextsDiffer};
 ghost use Rattle.span_fmt.specs.FormsTold.{LinesFormsGiveEvents, TreeFormsGiveAll};
 ghost use Rattle.span_fmt.specs.Quote.{QuotedTextsEnd};
@@ -36,6 +37,13 @@ pub fn escaped_texts_differ()
 /// nothing that stands behind it.
 pub fn a_quoted_text_ends_at_its_quote()
     ensures { QuotedTextsEnd }
+{}
+
+/// What a line of `Lines` has between its quotes are the texts that it tells, in order, whatever
+/// they say: none poses as another, nor as a line, a span, a field or a number. So of lines that
+/// are the same the texts are. The names in it, which are the program's own, have no quotes.
+pub fn lines_tell_their_texts()
+    ensures { LinesTellTheirTexts }
 {}
 
 /// A stream hands its writer a piece of each line that its form gives, in order, wherever it stands
