@@ -2,11 +2,12 @@
 ghost use Rattle.span_store.specs.Store.{IsFresh};
 
 use crate::receiver::traced;
-use span_core::TraceError;
+use span_core::{Level, TraceError};
 use span_fmt::Tree;
 use span_layers::Observer;
 use span_registry::{Registry, Subscriber};
 use span_stacks::SubscriberExt;
+use span_times::{Counted, Happening, OwnedValue, Timeline};
 use span_tracer::{Tracer, info, info_span};
 use std::alloc::Global;
 use std::process::Abort;
@@ -83,6 +84,27 @@ fn each_job_leaves_its_span(rt: HostRuntime) -> Result<(), Fail> {
     assert!(&rt; failed == 1);
     assert!(&rt; calls == 21);
     assert!(&rt; stack.outer().observer().text() == OF_JOBS);
+    assert!(&rt; stack.outer().observer().text().contains("parsed number=3"));
+    Ok(())
+}
+
+/// Of the first job: its span is opened and entered, and then an event is sent in it.
+#[test]
+fn names_and_fields_are_recorded(rt: HostRuntime) -> Result<(), Fail> {
+    let alloc = rt.alloc();
+    let timeline = Timeline::new(alloc, Counted::new()).with_values(true);
+    let stack = Registry::new(alloc).with(Observer::new(timeline))?;
+    let (stack, _, _) = run_all(&rt, alloc, stack)?;
+    let timeline = stack.outer().observer();
+    let (points, table) = (timeline.points(), timeline.table());
+    let parsed = &table.sites[1];
+    assert!(&rt; parsed.name.as_str() == "parsed" && parsed.level == Level::INFO);
+    assert!(&rt;
+        matches!(points[2].what, Happening::Sent(site, Some(_)) if site == parsed.callsite)
+    );
+    let fields = points[2].fields_in(table.fields);
+    assert!(&rt; fields[0].name.as_str() == "number");
+    assert!(&rt; fields[0].value == OwnedValue::U64(1));
     Ok(())
 }
 
