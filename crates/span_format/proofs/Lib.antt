@@ -7,3 +7,4 @@ mod Plain
 mod Noted
 mod Told
 mod Filled
+mod Between

@@ -1,3 +1,4 @@
+pub mod Between
 pub mod Field
 pub mod Format
 pub mod Kept

@@ -1,4 +1,5 @@
 //! Laws for callers: functions whose contract is the law, and that do nothing.
+ghost use Rattle.span_format.specs.Between.{FormatsTellTheirTexts};
 ghost use Rattle.span_format.specs.Told.{FormatsGiveEvents, KeepsWhatWasGiven};
 ghost use Rattle.span_format.specs.Written.{FormatsAreWritten};
 
@@ -24,4 +25,11 @@ pub fn a_format_is_written_as_it_is_given<S: Subscriber, W: Write>()
 /// order; and once it has closed, nothing of it is kept.
 pub fn what_open_spans_were_given_is_kept()
     ensures { KeepsWhatWasGiven }
+{}
+
+/// What a line of any layout has between its quotes are the texts that it tells, in order, whatever
+/// they say: none poses as another, nor as a line, a span, a field or a number. So of lines that
+/// are the same the texts are. The names in it, which are the program's own, have no quotes.
+pub fn lines_tell_their_texts()
+    ensures { FormatsTellTheirTexts }
 {}
