@@ -17,7 +17,7 @@ abbrev pub each_once : List ℕ → List ℕ
 each_once [] = []
 each_once (n ∷ ns) = n ∷ filter (λ m. not (m == n)) (each_once ns)
 
--- the callsites in a table's order: those of the sites, those of which spans closed, those of events
+-- the callsites in a table's order: those of the sites, of spans that closed, of events
 abbrev pub callsites_in : Timing → List Site → List ℕ
 callsites_in t sites =
     each_once (map (λ s. s.callsite) sites ++ span_callsites t ++ event_callsites t)
@@ -62,8 +62,8 @@ span_words =
 abbrev pub event_words : Line
 event_words = codes "event" ∷ codes "target" ∷ codes "count" ∷ []
 
--- the lines of these callsites: below what the columns are called, those of spans, and then so
--- those of events
+-- what the columns of spans are called, and below it the lines of these callsites' spans; then the
+-- same of events
 abbrev pub lines_of : Timing → List Site → List ℕ → List Line
 lines_of t sites callsites =
     span_words ∷ flat_map (λ n. option_map_or (span_lines sites n) (row_at n t) []) callsites
