@@ -21,7 +21,7 @@ use Rattle.span_script.specs.Script.{AskFor, IsSpelled}
 use Rattle.span_script.specs.declared.line.Line.{Line}
 use Rattle.span_script.specs.declared.stack_name.StackName.{StackName}
 use Rattle.span_show.specs.Serve.{IsStreamed, IsToldOf, WithStream}
-use Rattle.span_show.specs.declared.format.Export.TheVariants.{Chrome, Folded, Otlp, Page, Scopes, Svg}
+use Rattle.span_show.specs.declared.format.Export.TheVariants.{Chrome, Folded, Otlp, Page, Scopes, Svg, Timing}
 use Rattle.span_show.specs.declared.format.Export.{Export}
 use Rattle.span_show.specs.declared.format.Format.TheVariants.{Lines, Points, Tree}
 use Rattle.span_show.specs.declared.format.Format.{Format}
@@ -30,6 +30,11 @@ use Rattle.span_times.specs.declared.clock.Counted.{Counted}
 use Rattle.span_times.specs.declared.happening.Point.{Point}
 use Rattle.span_times.specs.declared.kept.Table.{Table}
 use Rattle.span_times.specs.declared.kept.Taken.{Taken}
+use Rattle.span_times.specs.declared.site.Site.{Site}
+use Rattle.span_timing.specs.Life.{events_of, lives_of}
+use Rattle.span_timing.specs.Text.{timing_text}
+use Rattle.span_timing.specs.Timing.{IsTimingOf}
+use Rattle.span_timing.specs.declared.timing.Timing.{Timing as TimingState}
 
 -- the word of a format
 abbrev pub format_word : Format → List ℕ
@@ -39,6 +44,7 @@ format_word (Points Chrome) = codes "chrome"
 format_word (Points Otlp) = codes "otlp"
 format_word (Points Folded) = codes "folded"
 format_word (Points Scopes) = codes "scopes"
+format_word (Points Timing) = codes "timing"
 format_word (Points Svg) = codes "svg"
 format_word (Points Page) = codes "page"
 
@@ -64,12 +70,19 @@ pub record IsOtlp (table : Table) (points : List Point) (text : List ℕ) : Type
   pub compact : AreCompact (map string_bytes lines)
   pub joined : text ≡ flat_map line_of lines
 
+-- the table of how long the spans took that close at these points, and how often events came
+pub record IsTable (sites : List Site) (points : List Point) (text : List ℕ) : Type 0 where
+  pub timing : TimingState
+  pub counts : IsTimingOf (lives_of points) (events_of points) timing
+  pub table : text ≡ timing_text timing sites
+
 -- points as a text in a format; a picture is 960 wide, and in a page 1,000,000
 abbrev pub IsExport : Export → Table → List Point → List ℕ → Type 0
 IsExport Chrome table points text = Means text (trace_of table points)
 IsExport Otlp table points text = IsOtlp table points text
 IsExport Folded table points text = text ≡ folded table points
 IsExport Scopes table points text = text ≡ scopes_folded table points
+IsExport Timing table points text = IsTable table.sites.now points text
 IsExport Svg table points text = IsPicture text table points 960
 IsExport Page table points text = IsPage text table points 1000000
 

@@ -1,12 +1,13 @@
 //! Points in the formats of other tools.
 ghost use Rattle.std.specs.Prelude.{◌≡◌, IfOk, flat_map, string_bytes};
-ghost use Rattle.span_show.specs.Show.{IsExport, line_of};
+ghost use Rattle.span_show.specs.Show.{IsExport, IsTable, line_of};
 
 use crate::fault::ShowFault;
 use crate::format::Export;
 use span_export::{chrome_text, folded_scopes, folded_text, timeline_page, timeline_svg};
 use span_otlp::{Trace, otlp_lines};
-use span_times::{Point, Table};
+use span_times::{Point, Site, Table};
+use span_timing::{Timing, timing_text};
 use std::alloc::{AllocError, Global};
 
 /// How wide a picture is.
@@ -29,9 +30,19 @@ pub(crate) fn export(
         Export::Otlp => otlp_text(alloc, points, table),
         Export::Folded => folded_text(alloc, points, table),
         Export::Scopes => folded_scopes(alloc, points, table),
+        Export::Timing => times_text(alloc, points, table.sites),
         Export::Svg => timeline_svg(alloc, points, table, WIDTH),
         Export::Page => timeline_page(alloc, points, table, PAGE_WIDTH),
     }
+}
+
+/// A table of how long spans took, and how often events came.
+fn times_text(alloc: Global, points: &[Point], sites: &[Site]) -> Result<String, AllocError>
+    ensures { IfOk result (λ text. IsTable sites.now points.now (string_bytes text)) }
+{
+    let mut timing = Timing::new(alloc);
+    timing.add(points)?;
+    timing_text(alloc, &timing, sites)
 }
 
 /// The spans of OpenTelemetry, each in a line of its own.

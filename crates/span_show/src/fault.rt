@@ -11,7 +11,7 @@ use thiserror::Error;
 #[derive(Clone, Copy, Debug, PartialEq, Eq, Error)]
 pub enum ShowFault {
     /// The arguments aren't a format and a script.
-    #[error("usage: span_show tree|lines|chrome|otlp|folded|scopes|svg|page SCRIPT")]
+    #[error("usage: span_show tree|lines|chrome|otlp|folded|scopes|timing|svg|page SCRIPT")]
     Usage,
     /// The script's first wrong line.
     #[error("{0}")]

@@ -24,6 +24,8 @@ pub enum Export {
     Folded,
     /// Folded stacks by scope.
     Scopes,
+    /// A table of how long spans took, and how often events came.
+    Timing,
     /// A picture.
     Svg,
     /// A picture in a page, to zoom and search.
@@ -43,6 +45,7 @@ impl Format {
             "otlp" => Some(Format::Points(Export::Otlp)),
             "folded" => Some(Format::Points(Export::Folded)),
             "scopes" => Some(Format::Points(Export::Scopes)),
+            "timing" => Some(Format::Points(Export::Timing)),
             "svg" => Some(Format::Points(Export::Svg)),
             "page" => Some(Format::Points(Export::Page)),
             _ => None,
