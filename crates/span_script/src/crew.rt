@@ -1,18 +1,14 @@
 //! Scripts that ten workers serve through one lock, in one thread.
-ghost use Rattle.std.specs.Prelude.{◌≡◌, ◌+◌, ◌-◌, ◌<◌, ◌≤◌, ◌^◌, IfErr, IfOk, length, string_bytes, vec_len};
+ghost use Rattle.std.specs.Prelude.{◌≡◌, ◌+◌, ◌-◌, ◌<◌, ◌≤◌, ◌^◌, IfErr, IfOk, length, vec_len};
 ghost use Rattle.span_shared.specs.Journal.{IsLegal};
 ghost use Rattle.span_store.specs.Store.{IsFresh};
-ghost use Rattle.span_script.specs.Printed.{GivesShared};
 ghost use Rattle.span_script.specs.Stacks.{AreCalled};
-ghost use Rattle.span_script.specs.Script.{stack_of};
 
 use crate::run_fault::RunFault;
-use crate::script::Script;
-use crate::stacks::text_by;
 use crate::way::Way;
 use span_core::Lane;
 use span_dispatch::{Answer, Call, Dispatch, Request};
-use span_registry::{Limits, Subscriber};
+use span_registry::Subscriber;
 use span_shared::{Crew, Journal, Shared, Worker};
 use std::alloc::Global;
 use std::marker::Brand;
@@ -22,24 +18,10 @@ use std::sync::ledger::Blank;
 /// How many workers there are: one for each lane that a script names.
 const WORKERS: u32 = 10;
 
-/// What a script prints, where workers share the stack that it names, and the journal of its
-/// requests.
-pub(crate) fn shared_text(
-    rt: &impl Wait,
-    alloc: Global,
-    script: &Script<'_>,
-) -> Result<(String, Journal), RunFault>
-    ensures printed { IfOk result (λ r.
-        GivesShared (stack_of script.now) script.now (string_bytes r.0)) }
-    ensures legal { IfOk result (λ r. IsLegal r.1) }
-    ensures fault { IfErr result (λ fault. fault ≡ RunFault.Memory) }
-{
-    text_by(ByWorkers { rt }, alloc, Limits::MAX, script)
-}
-
 /// Ten workers that share the stack, each on its lane. It leaves the journal of their requests.
-struct ByWorkers<'a, T> {
-    rt: &'a T,
+pub(crate) struct ByWorkers<'a, T> {
+    /// What workers wait by.
+    pub(crate) rt: &'a T,
 }
 
 impl<T: Wait> Way for ByWorkers<'_, T> {
@@ -56,25 +38,9 @@ impl<T: Wait> Way for ByWorkers<'_, T> {
         requests: &[Request<'_>],
     ) -> Result<(Vec<Answer>, Dispatch<S>, Journal), RunFault> {
         let ByWorkers { rt } = self;
-        serve_shared(rt, alloc, stack, requests)
+        let blank = Blank::new(u64::from(WORKERS));
+        serve::<S, Brand>(rt, alloc, blank, stack, requests)
     }
-}
-
-/// Has ten workers share a stack and serve requests by it.
-fn serve_shared<S: Subscriber + Drop>(
-    rt: &impl Wait,
-    alloc: Global,
-    stack: S,
-    requests: &[Request<'_>],
-) -> Result<(Vec<Answer>, Dispatch<S>, Journal), RunFault>
-    requires usable { S.usable stack }
-    requires fresh { IsFresh (S.registry stack) }
-    ensures each { IfOk result (λ r. length r.0.items ≡ length requests.now) }
-    ensures legal { IfOk result (λ r. IsLegal r.2) }
-    ensures fault { IfErr result (λ fault. fault ≡ RunFault.Memory) }
-{
-    let blank = Blank::new(u64::from(WORKERS));
-    serve::<S, Brand>(rt, alloc, blank, stack, requests)
 }
 
 /// Has ten workers share a stack and serve requests by it, each on its lane.

@@ -5,11 +5,12 @@ ghost use Rattle.span_shared.specs.Journal.{IsLegal};
 ghost use Rattle.span_script.specs.Program.{BlamesFirstWrong, IsRunFault, IsUnwritten, Prints, PrintsShared, RefusesLong, Writes};
 ghost use Rattle.span_script.specs.Stacks.{ArePositive};
 
-use crate::crew::shared_text;
+use crate::crew::ByWorkers;
 use crate::read::read_script;
 use crate::run_fault::RunFault;
 use crate::script::Script;
-use crate::stacks::served_text;
+use crate::stacks::text_by;
+use crate::way::Alone;
 use span_registry::Limits;
 use span_shared::Journal;
 use std::alloc::Global;
@@ -83,7 +84,8 @@ fn output_of(alloc: Global, limits: Limits, text: &str) -> Result<String, RunFau
     ensures fault { IfErr result (IsRunFault text.now) }
 {
     let script = Script::parse(alloc, text)?;
-    served_text(alloc, limits, &script)
+    let (output, ()) = text_by(Alone, alloc, limits, &script)?;
+    Ok(output)
 }
 
 /// What a script prints, where workers share its stack, and the journal.
@@ -97,7 +99,7 @@ fn shared_output_of(
     ensures fault { IfErr result (IsRunFault text.now) }
 {
     let script = Script::parse(alloc, text)?;
-    shared_text(rt, alloc, &script)
+    text_by(ByWorkers { rt }, alloc, Limits::MAX, &script)
 }
 
 /// Writes all of the output, or fails.

@@ -17,7 +17,7 @@ use crate::script::Script;
 use crate::script_stack::ScriptStack;
 use crate::scripted::Scripted;
 use crate::stack_name::StackName;
-use crate::way::{Alone, Way};
+use crate::way::Way;
 use span_core::LevelFilter;
 use span_dispatch::{Answer, Recorder};
 use span_layers::Layer;
@@ -49,21 +49,6 @@ pub(crate) type Absent = Layered<Recorder, Layered<Option<Recorder>, Registry>>;
 
 /// The stack `directives`: a recorder, and outside it one under what its filter is set to.
 pub(crate) type Directives = Layered<Filtered<Recorder, Setting>, Plain>;
-
-/// What a script prints, where the stack that it names serves its requests.
-pub(crate) fn served_text(
-    alloc: Global,
-    limits: Limits,
-    script: &Script<'_>,
-) -> Result<String, RunFault>
-    requires { ArePositive limits }
-    ensures printed { IfOk result (λ s.
-        Gives limits (stack_of script.now) script.now (string_bytes s)) }
-    ensures fault { IfErr result (λ fault. fault ≡ RunFault.Memory) }
-{
-    let (text, ()) = text_by(Alone, alloc, limits, script)?;
-    Ok(text)
-}
 
 /// What a script prints, where the stack that it names serves its requests in this way.
 pub(crate) fn text_by<W: Way>(

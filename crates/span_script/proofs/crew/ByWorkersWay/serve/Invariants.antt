@@ -1,4 +1,4 @@
-use Rattle.span_script.proofs.crew.serve_shared.Given as goal
+use Rattle.span_script.proofs.crew.ByWorkersWay.serve.Given as goal
 
 abbrev pub ghosts-serve-L-Crew : goal.ghosts-serve-L-Crew
 ghosts-serve-L-Crew g a = record { workers = a.blank.parts }
