@@ -3,7 +3,7 @@ use crate::point::{
     at, field, fields, hostile_fields, hostile_points, job, names, points, site, sites, with,
 };
 use span_core::{Id, Level};
-use span_otlp::{Trace, TraceParent, otlp_batches, otlp_lines};
+use span_otlp::{Trace, TraceParent, otlp_batches, otlp_lines, otlp_logs};
 use span_times::{Happening, OwnedField, OwnedValue, Point, Table};
 use std::alloc::Global;
 use std::test::Fail;
@@ -314,6 +314,100 @@ fn an_error_is_a_status(rt: HostRuntime) -> Result<(), Fail> {
     assert!(rt; lines.len() == 2);
     assert!(rt; lines[0].as_str().contains("\"status\":{\"code\":2}"));
     assert!(rt; lines[1].as_str().contains("\"status\":{}"));
+    Ok(())
+}
+
+/// An event with a field, one in a span, one of an unknown callsite on another lane, and one whose
+/// two fields aren't in the table.
+fn events_about_a_span() -> [Point; 6] {
+    let first = Id::from_u64(1);
+    [
+        with(5000, 0, Happening::Sent(3, None), 2, 3),
+        at(6000, 0, Happening::Opened(first, 1, None)),
+        at(6500, 0, Happening::Sent(4, Some(first))),
+        at(7000, 1, Happening::Sent(9, None)),
+        at(7500, 0, Happening::Closed(first)),
+        with(8000, 0, Happening::Sent(4, None), 3, 5),
+    ]
+}
+
+/// The first request of two log records each.
+const RECORDS: &str = "{\"resourceLogs\":[{\
+\"resource\":{\"attributes\":[{\"key\":\"service.name\",\"value\":{\"stringValue\":\"shop\"}}]},\
+\"scopeLogs\":[{\"logRecords\":[{\
+\"attributes\":[{\"key\":\"target\",\"value\":{\"stringValue\":\"app\"}},\
+{\"key\":\"thread.id\",\"value\":{\"intValue\":\"0\"}},\
+{\"key\":\"left\",\"value\":{\"intValue\":\"-3\"}}],\
+\"body\":{\"stringValue\":\"<said>\"},\"severityNumber\":13,\"severityText\":\"WARN\",\
+\"timeUnixNano\":\"1700000000000005000\"},{\
+\"attributes\":[{\"key\":\"target\",\"value\":{\"stringValue\":\"?\"}},\
+{\"key\":\"thread.id\",\"value\":{\"intValue\":\"1\"}}],\
+\"body\":{\"stringValue\":\"?\"},\"severityNumber\":0,\"severityText\":\"?\",\
+\"timeUnixNano\":\"1700000000000007000\"}]}]}]}";
+
+/// The one record of the second.
+const LAST_RECORD: &str = "\"logRecords\":[{\
+\"attributes\":[{\"key\":\"target\",\"value\":{\"stringValue\":\"app\"}},\
+{\"key\":\"thread.id\",\"value\":{\"intValue\":\"0\"}}],\
+\"body\":{\"stringValue\":\"broken\"},\"droppedAttributesCount\":2,\
+\"severityNumber\":17,\"severityText\":\"ERROR\",\
+\"timeUnixNano\":\"1700000000000008000\"}]}]}]}";
+
+#[test]
+fn events_outside_spans_are_log_records(rt: HostRuntime) -> Result<(), Fail> {
+    let alloc = rt.alloc();
+    let (sites, fields) = (sites(alloc)?, fields(alloc)?);
+    let table = Table {
+        sites: &sites,
+        fields: &fields,
+    };
+    let lines = otlp_logs(
+        alloc,
+        &trace_of_shop(alloc)?,
+        &events_about_a_span(),
+        table,
+        2,
+    )?;
+    assert!(rt; lines.len() == 2);
+    assert!(rt; lines[0].as_str() == RECORDS);
+    assert!(rt; lines[1].as_str().ends_with(LAST_RECORD));
+    Ok(())
+}
+
+/// OpenTelemetry's numbers.
+const SEVERITIES: [(Level, &str); 5] = [
+    (
+        Level::TRACE,
+        "\"severityNumber\":1,\"severityText\":\"TRACE\"",
+    ),
+    (
+        Level::DEBUG,
+        "\"severityNumber\":5,\"severityText\":\"DEBUG\"",
+    ),
+    (
+        Level::INFO,
+        "\"severityNumber\":9,\"severityText\":\"INFO\"",
+    ),
+    (
+        Level::WARN,
+        "\"severityNumber\":13,\"severityText\":\"WARN\"",
+    ),
+    (
+        Level::ERROR,
+        "\"severityNumber\":17,\"severityText\":\"ERROR\"",
+    ),
+];
+
+#[test]
+fn a_level_is_a_severity(rt: HostRuntime) -> Result<(), Fail> {
+    let alloc = rt.alloc();
+    let trace = trace_of_shop(alloc)?;
+    for (level, shown) in SEVERITIES {
+        let sites = [site(alloc, 5, "said", "app", level)?];
+        let points = [at(0, 0, Happening::Sent(5, None))];
+        let lines = otlp_logs(alloc, &trace, &points, names(&sites), 1)?;
+        assert!(rt; lines.len() == 1 && lines[0].as_str().contains(shown));
+    }
     Ok(())
 }
 

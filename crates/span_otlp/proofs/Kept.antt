@@ -22,3 +22,10 @@ keeps_one_more view f xs i d old new o within e grew so_far =
     ap (map view) grew ∙ map-append view old (option_to_list o)
     ∙ ap (λ ys. ys ++ map view (option_to_list o)) so_far ∙ ap (λ ys. filter_map f (take i xs) ++ ys) (seen_one view o ∙ sym given)
     ∙ sym (ap (filter_map f) (take_more xs i d within) ∙ filter_map-append f (take i xs) (get_or xs i d ∷ []))
+
+-- one more element was looked at, and what it gives, if anything, stands behind the others
+pub one_more_kept : {A B : Type 0} (f : A → Option B) (xs : List A) (i : ℕ) (d : A) (o : Option B)
+    → i < length xs → o ≡ f (get_or xs i d) → filter_map f (take i xs) ++ option_to_list o ≡ filter_map f (take (i + 1) xs)
+one_more_kept f xs i d o within e =
+    ap (λ ys. filter_map f (take i xs) ++ ys) (sym (one f (get_or xs i d) o (sym e)))
+    ∙ sym (ap (filter_map f) (take_more xs i d within) ∙ filter_map-append f (take i xs) (get_or xs i d ∷ []))

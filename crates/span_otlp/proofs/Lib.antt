@@ -7,4 +7,5 @@ mod Lost
 mod Openings
 mod Own
 mod Parents
+mod Records
 mod Requests

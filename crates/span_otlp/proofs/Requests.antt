@@ -64,7 +64,8 @@ whole_typed : (b : Bool) (d : Data) → depth d ≤ 0 → depth (if b then typed
 whole_typed true d flat = one_typed (codes "intValue") d flat
 whole_typed false d flat = one_typed (codes "stringValue") d flat
 
-typed_depth : (s : Said) → depth (typed_data s) ≤ 1
+-- a value with its type
+pub typed_depth : (s : Said) → depth (typed_data s) ≤ 1
 typed_depth (Whole n) = whole_typed (nat_lt n (2 ^ 63)) (string (decimal n)) (omega arith)
 typed_depth (Signed n) = one_typed (codes "intValue") (string (signed_decimal n)) (omega arith)
 typed_depth (Wide n) = one_typed (codes "stringValue") (string (decimal n)) (omega arith)
@@ -76,7 +77,8 @@ typed_depth (Words text) = one_typed (codes "stringValue") (string text) (omega 
 attribute_depth : (f : FieldSaid) → depth (attribute_of f) ≤ 2
 attribute_depth f = object_within 1 ((codes "key", string f.0) ∷ (codes "value", typed_data f.1) ∷ []) (omega arith, (typed_depth f.1, tt))
 
-attributes_depth : (known given : List FieldSaid) → depth (attributes_of known given) ≤ 3
+-- attributes
+pub attributes_depth : (known given : List FieldSaid) → depth (attributes_of known given) ≤ 3
 attributes_depth known given = omega (arith, mapped_within 2 attribute_of attribute_depth (not_given given known ++ given))
 
 only_depth : (d : Data) (n : ℕ) → depth d ≤ n → depth (only d) ≤ n + 1

@@ -4,6 +4,7 @@ ghost use Rattle.serde_json.specs.View.{view};
 ghost use Rattle.span_otlp.specs.Attribute.{attribute_of, attributes_of};
 ghost use Rattle.span_otlp.specs.Otlp.{event_known, span_known};
 ghost use Rattle.span_export.specs.Site.{given_said, named_so};
+ghost use Rattle.span_otlp.specs.LogRecord.{record_known};
 ghost use Rattle.span_otlp.specs.private.Own.{own_attribute};
 ghost use Rattle.span_times.specs.Field.Said.{Whole, Words};
 ghost use Rattle.span_times.specs.Field.{field_said};
@@ -27,6 +28,22 @@ pub(crate) fn event_attributes(
         ≡ attributes_of (event_known (named_so name.entry) lane.0) (named_so name.entry).given) }
 {
     let mut pairs = known(alloc, name, lane)?;
+    write_attributes(alloc, &mut pairs, name.given)?;
+    Ok(Value::Array(pairs))
+}
+
+/// The attributes of a log record: what is known of the event beside its level, unless it was given
+/// fields with these names, and what it was given.
+pub(crate) fn record_attributes(
+    alloc: Global,
+    name: Name<'_>,
+    lane: Lane,
+) -> Result<Value, AllocError>
+    ensures { IfOk result (λ pairs. view pairs
+        ≡ attributes_of (record_known (named_so name.entry) lane.0) (named_so name.entry).given) }
+{
+    let mut pairs = Vec::new(alloc);
+    write_place(alloc, &mut pairs, name, lane)?;
     write_attributes(alloc, &mut pairs, name.given)?;
     Ok(Value::Array(pairs))
 }
@@ -57,15 +74,23 @@ fn known(alloc: Global, name: Name<'_>, lane: Lane) -> Result<Vec<Value>, AllocE
 {
     let mut pairs = Vec::new(alloc);
     write_text(alloc, &mut pairs, name.given, "level", name.level())?;
-    write_text(alloc, &mut pairs, name.given, "target", name.target())?;
-    write_number(
-        alloc,
-        &mut pairs,
-        name.given,
-        "thread.id",
-        u64::from(lane.0),
-    )?;
+    write_place(alloc, &mut pairs, name, lane)?;
     Ok(pairs)
+}
+
+/// Writes the target and the lane as attributes behind these, unless fields with these names were
+/// given.
+fn write_place(
+    alloc: Global,
+    pairs: &mut Vec<Value>,
+    name: Name<'_>,
+    lane: Lane,
+) -> Result<(), AllocError>
+    ensures { OnOk result (map view pairs.new.items ≡ map view pairs.old.items ++ flat_map
+        (own_attribute (named_so name.entry).given) (record_known (named_so name.entry) lane.0)) }
+{
+    write_text(alloc, pairs, name.given, "target", name.target())?;
+    write_number(alloc, pairs, name.given, "thread.id", u64::from(lane.0))
 }
 
 /// Writes a text as an attribute behind these, unless a field with that name was given.

@@ -393,7 +393,7 @@ fn span_id(alloc: Global, number: Option<u64>) -> Result<Value, AllocError>
 }
 
 /// A time of points as nanoseconds since 1970, which are a text.
-fn nanos(alloc: Global, trace: &Trace, time: u64) -> Result<Value, AllocError>
+pub(crate) fn nanos(alloc: Global, trace: &Trace, time: u64) -> Result<Value, AllocError>
     ensures { IfOk result (λ text. view text ≡ nanos trace.now time) }
 {
     let time = trace.began.saturating_add(time);

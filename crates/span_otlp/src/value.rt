@@ -2,6 +2,7 @@
 ghost use Rattle.std.specs.Prelude.{◌≡◌, IfOk};
 ghost use Rattle.serde_json.specs.View.{view};
 ghost use Rattle.span_otlp.specs.Value.{proto_name, typed_data, whole_data};
+ghost use Rattle.span_times.specs.Field.Said.{Words};
 ghost use Rattle.span_times.specs.Field.{said};
 
 use serde_json::{Value, json};
@@ -29,8 +30,15 @@ pub(crate) fn typed_value(alloc: Global, value: &OwnedValue) -> Result<Value, Al
             json!(in alloc; {"doubleValue": number})
         }
         OwnedValue::Bool(flag) => json!(in alloc; {"boolValue": Value::Bool(*flag)}),
-        OwnedValue::Text(text) => json!(in alloc; {"stringValue": text.as_str()}),
+        OwnedValue::Text(text) => words(alloc, text.as_str()),
     }
+}
+
+/// A text as OpenTelemetry has it.
+pub(crate) fn words(alloc: Global, text: &str) -> Result<Value, AllocError>
+    ensures { IfOk result (λ made. view made ≡ typed_data (Words text.now)) }
+{
+    json!(in alloc; {"stringValue": text})
 }
 
 /// A number without a sign as OpenTelemetry has it: an integer, if it is below 2^63.
