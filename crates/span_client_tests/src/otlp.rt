@@ -3,14 +3,14 @@ use crate::point::{
     at, field, fields, hostile_fields, hostile_points, job, names, points, site, sites, with,
 };
 use span_core::{Id, Level};
-use span_otlp::{Trace, TraceParent, otlp_batches, otlp_lines, otlp_logs};
+use span_otlp::{Scope, Trace, TraceParent, otlp_batches, otlp_lines, otlp_logs};
 use span_times::{Happening, OwnedField, OwnedValue, Point, Table};
 use std::alloc::Global;
 use std::test::Fail;
 
 const INNER: &str = "{\"resourceSpans\":[{\
 \"resource\":{\"attributes\":[{\"key\":\"service.name\",\"value\":{\"stringValue\":\"shop\"}}]},\
-\"scopeSpans\":[{\"spans\":[{\
+\"scopeSpans\":[{\"scope\":{\"name\":\"shop_server\",\"version\":\"1.2\"},\"spans\":[{\
 \"attributes\":[{\"key\":\"level\",\"value\":{\"stringValue\":\"DEBUG\"}},\
 {\"key\":\"target\",\"value\":{\"stringValue\":\"app::net\"}},\
 {\"key\":\"thread.id\",\"value\":{\"intValue\":\"0\"}},\
@@ -28,7 +28,7 @@ const INNER: &str = "{\"resourceSpans\":[{\
 
 const OUTER: &str = "{\"resourceSpans\":[{\
 \"resource\":{\"attributes\":[{\"key\":\"service.name\",\"value\":{\"stringValue\":\"shop\"}}]},\
-\"scopeSpans\":[{\"spans\":[{\
+\"scopeSpans\":[{\"scope\":{\"name\":\"shop_server\",\"version\":\"1.2\"},\"spans\":[{\
 \"attributes\":[{\"key\":\"level\",\"value\":{\"stringValue\":\"INFO\"}},\
 {\"key\":\"target\",\"value\":{\"stringValue\":\"app\"}},\
 {\"key\":\"thread.id\",\"value\":{\"intValue\":\"0\"}},\
@@ -49,6 +49,10 @@ fn trace_of_shop(alloc: Global) -> Result<Trace, Fail> {
         began: 1_700_000_000_000_000_000,
         parent: None,
         attributes: Vec::new(alloc),
+        scope: Scope {
+            name: String::from_str(alloc, "shop_server")?,
+            version: String::from_str(alloc, "1.2")?,
+        },
     })
 }
 
@@ -87,7 +91,7 @@ fn five_spans() -> [Point; 8] {
 /// The first request of two spans each. The second one has a name and a target that are hostile.
 const PAIR: &str = "{\"resourceSpans\":[{\
 \"resource\":{\"attributes\":[{\"key\":\"service.name\",\"value\":{\"stringValue\":\"shop\"}}]},\
-\"scopeSpans\":[{\"spans\":[{\
+\"scopeSpans\":[{\"scope\":{\"name\":\"shop_server\",\"version\":\"1.2\"},\"spans\":[{\
 \"attributes\":[{\"key\":\"level\",\"value\":{\"stringValue\":\"DEBUG\"}},\
 {\"key\":\"target\",\"value\":{\"stringValue\":\"app::net\"}},\
 {\"key\":\"thread.id\",\"value\":{\"intValue\":\"0\"}},\
@@ -343,7 +347,8 @@ const RECORDS: &str = "{\"resourceLogs\":[{\
 \"attributes\":[{\"key\":\"target\",\"value\":{\"stringValue\":\"?\"}},\
 {\"key\":\"thread.id\",\"value\":{\"intValue\":\"1\"}}],\
 \"body\":{\"stringValue\":\"?\"},\"severityNumber\":0,\"severityText\":\"?\",\
-\"timeUnixNano\":\"1700000000000007000\"}]}]}]}";
+\"timeUnixNano\":\"1700000000000007000\"}],\
+\"scope\":{\"name\":\"shop_server\",\"version\":\"1.2\"}}]}]}";
 
 /// The one record of the second.
 const LAST_RECORD: &str = "\"logRecords\":[{\
@@ -351,7 +356,8 @@ const LAST_RECORD: &str = "\"logRecords\":[{\
 {\"key\":\"thread.id\",\"value\":{\"intValue\":\"0\"}}],\
 \"body\":{\"stringValue\":\"broken\"},\"droppedAttributesCount\":2,\
 \"severityNumber\":17,\"severityText\":\"ERROR\",\
-\"timeUnixNano\":\"1700000000000008000\"}]}]}]}";
+\"timeUnixNano\":\"1700000000000008000\"}],\
+\"scope\":{\"name\":\"shop_server\",\"version\":\"1.2\"}}]}]}";
 
 #[test]
 fn events_outside_spans_are_log_records(rt: HostRuntime) -> Result<(), Fail> {

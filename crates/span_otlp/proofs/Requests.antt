@@ -20,7 +20,7 @@ use Rattle.span_export.proofs.CallerLemmas.{joined_within, mapped_within, number
 use Rattle.span_export.specs.Value.{number_or}
 use Rattle.span_otlp.proofs.Depth.{dropped_within, items_within}
 use Rattle.span_otlp.specs.Attribute.{attribute_of, attributes_of, not_given}
-use Rattle.span_otlp.specs.Batch.{known_attribute, only, request_under, request_value, resource_attributes, resource_value}
+use Rattle.span_otlp.specs.Batch.{known_attribute, only, request_under, request_value, resource_attributes, resource_value, scope_value}
 use Rattle.span_otlp.specs.Dropped.{dropped_by, missing}
 use Rattle.span_times.specs.Measure.{busy_in, idle_in}
 use Rattle.span_export.specs.Json.{object_of, whole}
@@ -171,8 +171,11 @@ under_depth : (resources scopes items : List ℕ) (trace : Trace) (ds : List Dat
     → AllByRecursion (λ d. depth d ≤ 6) ds → depth (request_under resources scopes items trace ds) ≤ 127
 under_depth resources scopes items trace ds h =
     let values : depth (array (items_of ds)) ≤ 7 = omega (arith, values_within 6 ds h) in
-    let scope = object_of ((items, array (items_of ds)) ∷ []) in
-    let one : depth scope ≤ 8 = object_within 7 ((items, array (items_of ds)) ∷ []) (values, tt) in
+    let made = scope_value trace.scope in
+    let flat : depth made ≤ 1 = object_within 0 ((codes "name", string (string_bytes trace.scope.name))
+    ∷ (codes "version", string (string_bytes trace.scope.version)) ∷ []) (omega arith, (omega arith, tt)) in
+    let scope = object_of ((codes "scope", made) ∷ (items, array (items_of ds)) ∷ []) in
+    let one : depth scope ≤ 8 = object_within 7 ((codes "scope", made) ∷ (items, array (items_of ds)) ∷ []) (omega (arith, flat), (values, tt)) in
     let two : depth (only scope) ≤ 9 = only_depth scope 8 one in
     let both = object_of ((codes "resource", resource_value trace) ∷ (scopes, only scope) ∷ []) in
     let three : depth both ≤ 10 = object_within 9 ((codes "resource", resource_value trace) ∷ (scopes, only scope) ∷ [])

@@ -2,12 +2,13 @@
 use Rattle.std.specs.Prelude.{◌≡◌, ◌<◌, ◌≤◌, ◌+◌, ◌*◌, ℕ, List, [], ◌∷◌, String, codes, flat_map, length, map, max, string_bytes}
 use Rattle.std.specs.List.{AllByRecursion}
 use Rattle.std.specs.declared.alloc.Global.{Global}
-use Rattle.serde_json.specs.Data.{Data, array}
+use Rattle.serde_json.specs.Data.{Data, array, string}
 use Rattle.serde_json.specs.View.{items_of}
 use Rattle.span_otlp.specs.Attribute.{attribute_of}
 use Rattle.span_export.specs.Json.{AllMean, object_of}
 use Rattle.span_otlp.specs.declared.batch.Signal.TheVariants.{Logs, Spans}
 use Rattle.span_otlp.specs.declared.batch.Signal.{Signal}
+use Rattle.span_otlp.specs.declared.otlp.Scope.{Scope}
 use Rattle.span_otlp.specs.declared.otlp.Trace.{Trace}
 use Rattle.span_times.specs.Field.Said.{Words}
 
@@ -30,10 +31,17 @@ abbrev pub resource_value : Trace → Data
 resource_value trace =
     object_of ((codes "attributes", array (items_of (resource_attributes trace))) ∷ [])
 
+-- what of the service made the spans or records
+abbrev pub scope_value : Scope → Data
+scope_value scope =
+    object_of ((codes "name", string (string_bytes scope.name))
+    ∷ (codes "version", string (string_bytes scope.version)) ∷ [])
+
 -- what is exported, under these names, of the service
 abbrev pub request_under : List ℕ → List ℕ → List ℕ → Trace → List Data → Data
 request_under resources scopes items trace values =
-    let scope = object_of ((items, array (items_of values)) ∷ []) in
+    let scope = object_of ((codes "scope", scope_value trace.scope)
+    ∷ (items, array (items_of values)) ∷ []) in
     object_of ((
       resources,
       only (object_of ((codes "resource", resource_value trace) ∷ (scopes, only scope) ∷ [])),

@@ -3,12 +3,12 @@ ghost use Rattle.std.specs.Prelude.{◌≡◌, ◌∷◌, ◌++◌, [], IfOk, Li
 ghost use Rattle.std.specs.Option.{option_map, option_to_list};
 ghost use Rattle.serde_json.specs.Data.{Data};
 ghost use Rattle.serde_json.specs.View.{view};
-ghost use Rattle.span_otlp.specs.Batch.{known_attribute, request_value, resource_attributes};
+ghost use Rattle.span_otlp.specs.Batch.{known_attribute, request_value, resource_attributes, scope_value};
 ghost use Rattle.span_otlp.specs.declared.batch.Signal.TheVariants.{Logs, Spans};
 ghost use Rattle.span_otlp.specs.private.Sent.{AreAllSent, AreSent, HasSent, HaveRoom, IsWithin};
 
 use crate::attribute::text_attribute;
-use crate::otlp::Trace;
+use crate::otlp::{Scope, Trace};
 use serde_json::{Value, json};
 use std::alloc::{AllocError, Global};
 use std::mem;
@@ -132,7 +132,7 @@ fn request_for_spans(alloc: Global, trace: &Trace, spans: Vec<Value>) -> Result<
     json!(in alloc; {
         "resourceSpans": [{
             "resource": {"attributes": attributes},
-            "scopeSpans": [{"spans": spans}]
+            "scopeSpans": [{"scope": scope(alloc, &trace.scope)?, "spans": spans}]
         }]
     })
 }
@@ -151,9 +151,16 @@ fn request_for_records(
     json!(in alloc; {
         "resourceLogs": [{
             "resource": {"attributes": attributes},
-            "scopeLogs": [{"logRecords": records}]
+            "scopeLogs": [{"logRecords": records, "scope": scope(alloc, &trace.scope)?}]
         }]
     })
+}
+
+/// What made the spans or records.
+fn scope(alloc: Global, scope: &Scope) -> Result<Value, AllocError>
+    ensures { IfOk result (λ made. view made ≡ scope_value scope.now) }
+{
+    json!(in alloc; {"name": scope.name.as_str(), "version": scope.version.as_str()})
 }
 
 /// What is known of the service: its name, and the attributes of the trace.

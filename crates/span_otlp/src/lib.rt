@@ -14,5 +14,5 @@ mod trace_parent;
 mod value;
 
 pub use log_record::otlp_logs;
-pub use otlp::{Trace, otlp_batches, otlp_lines};
+pub use otlp::{Scope, Trace, otlp_batches, otlp_lines};
 pub use trace_parent::{TraceParent, WrongTraceParent};

@@ -37,16 +37,44 @@ pub struct Trace {
     pub parent: Option<u64>,
     /// What else is known of the service, as keys and texts: each key once, and no `service.name`.
     pub attributes: Vec<(String, String)>,
+    /// What of the service made the spans and events, as a library.
+    pub scope: Scope,
+}
+
+/// The instrumentation scope, which stands for a tracer's name: what made spans and events.
+///
+/// Stands for `opentelemetry::InstrumentationScope`.
+#[derive(Debug, Drop)]
+pub struct Scope {
+    /// Its name, or nothing where that isn't known.
+    pub name: String,
+    /// Its version, or nothing where that isn't known.
+    pub version: String,
+}
+
+impl Scope {
+    /// Nothing is known.
+    pub fn unknown(alloc: Global) -> Scope
+        ensures name { string_bytes result.name ≡ [] }
+        ensures version { string_bytes result.version ≡ [] }
+    {
+        Scope {
+            name: String::new(alloc),
+            version: String::new(alloc),
+        }
+    }
 }
 
 impl Trace {
-    /// A trace that goes on here below a span of another program, without attributes.
+    /// A trace that goes on here below a span of another program, without attributes and scope.
     pub fn under(alloc: Global, parent: &TraceParent, service: String, began: u64) -> Trace
         ensures id { result.id ≡ parent.now.trace }
         ensures parent { result.parent ≡ Some parent.now.span }
         ensures service { result.service ≡ service }
         ensures began { result.began ≡ began }
         ensures attributes { result.attributes.items ≡ [] }
+        ensures scope_name { string_bytes result.scope.name ≡ [] }
+        ensures scope_version { string_bytes result.scope.version ≡ [] }
     {
         Trace {
             id: parent.trace,
@@ -54,6 +82,7 @@ impl Trace {
             began,
             parent: Some(parent.span),
             attributes: Vec::new(alloc),
+            scope: Scope::unknown(alloc),
         }
     }
 }

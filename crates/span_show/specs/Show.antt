@@ -53,13 +53,15 @@ abbrev pub line_of : String Global → List ℕ
 line_of text = string_bytes text ++ codes "\n"
 
 -- the trace of a script: the first, of the service `script`, whose clock began with 1970; it has no
--- parent and no attributes
+-- parent, no attributes, and a scope without name and version
 pub record IsTrace (trace : Trace) : Type 0 where
   pub id : trace.id ≡ 1
   pub service : string_bytes trace.service ≡ codes "script"
   pub began : trace.began ≡ 0
   pub parent : trace.parent ≡ None
   pub attributes : trace.attributes.items ≡ []
+  pub scope_name : string_bytes trace.scope.name ≡ []
+  pub scope_version : string_bytes trace.scope.version ≡ []
 
 -- the spans that closed, each a line that means OpenTelemetry's request for it
 pub record IsOtlp (table : Table) (points : List Point) (text : List ℕ) : Type 0 where

@@ -5,7 +5,7 @@ ghost use Rattle.span_show.specs.Show.{IsExport, IsTable, line_of};
 use crate::fault::ShowFault;
 use crate::format::Export;
 use span_export::{chrome_text, folded_scopes, folded_text, timeline_page, timeline_svg};
-use span_otlp::{Trace, otlp_lines};
+use span_otlp::{Scope, Trace, otlp_lines};
 use span_times::{Point, Site, Table};
 use span_timing::{Timing, timing_text};
 use std::alloc::{AllocError, Global};
@@ -56,6 +56,7 @@ fn otlp_text(alloc: Global, points: &[Point], table: Table<'_>) -> Result<String
         began: 0,
         parent: None,
         attributes: Vec::new(alloc),
+        scope: Scope::unknown(alloc),
     };
     let lines = otlp_lines(alloc, &trace, points, table)?;
     text_of(alloc, &lines)
