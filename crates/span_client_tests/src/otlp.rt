@@ -1,9 +1,14 @@
 //! Tests of exports to OpenTelemetry, which were worked out by hand.
+ghost use Rattle.std.specs.Prelude.{◌*◌};
+
 use crate::point::{
     at, field, fields, hostile_fields, hostile_points, job, names, points, site, sites, with,
 };
 use span_core::{Id, Level};
-use span_otlp::{Scope, Trace, TraceParent, otlp_batches, otlp_lines, otlp_logs};
+use span_otlp::{
+    Scope, SeededTraces, Trace, TraceIds, TraceParent, otlp_batches, otlp_lines, otlp_logs,
+    otlp_traces,
+};
 use span_times::{Happening, OwnedField, OwnedValue, Point, Table};
 use std::alloc::Global;
 use std::test::Fail;
@@ -414,6 +419,95 @@ fn a_level_is_a_severity(rt: HostRuntime) -> Result<(), Fail> {
         let lines = otlp_logs(alloc, &trace, &points, names(&sites), 1)?;
         assert!(rt; lines.len() == 1 && lines[0].as_str().contains(shown));
     }
+    Ok(())
+}
+
+/// Traces of the numbers of roots, with two zeroes.
+struct Hundreds;
+
+impl TraceIds for Hundreds {
+    ghost trace_of = { λ ids root. root * 0x100 };
+
+    fn trace_id(&self, root: Id) -> u128 {
+        u128::from(root.into_u64()) * 0x100
+    }
+}
+
+/// A root with a child and a grandchild, another root, and a span below one that opened elsewhere.
+/// The grandchild follows from the other root, this from the child, and the last from its parent.
+fn three_roots() -> [Point; 13] {
+    let (first, child, grandchild) = (Id::from_u64(1), Id::from_u64(2), Id::from_u64(3));
+    let (other, below, elsewhere) = (Id::from_u64(4), Id::from_u64(5), Id::from_u64(9));
+    [
+        at(0, 0, Happening::Opened(first, 1, None)),
+        at(0, 0, Happening::Opened(child, 2, Some(first))),
+        at(0, 0, Happening::Opened(other, 1, None)),
+        at(0, 0, Happening::Opened(grandchild, 2, Some(child))),
+        at(0, 0, Happening::Opened(below, 2, Some(elsewhere))),
+        at(1, 0, Happening::Followed(grandchild, other)),
+        at(1, 0, Happening::Followed(other, child)),
+        at(1, 0, Happening::Followed(below, elsewhere)),
+        at(2, 0, Happening::Closed(grandchild)),
+        at(2, 0, Happening::Closed(child)),
+        at(2, 0, Happening::Closed(other)),
+        at(2, 0, Happening::Closed(below)),
+        at(2, 0, Happening::Closed(first)),
+    ]
+}
+
+/// What each span ends with: its number, when it began, and its trace. They are in the order of the
+/// closes.
+const TRACED: [&str; 5] = [
+    "\"spanId\":\"0000000000000003\",\"startTimeUnixNano\":\"1700000000000000000\",\"status\":{},\
+\"traceId\":\"00000000000000000000000000000100\"}]}]}]}",
+    "\"spanId\":\"0000000000000002\",\"startTimeUnixNano\":\"1700000000000000000\",\"status\":{},\
+\"traceId\":\"00000000000000000000000000000100\"}]}]}]}",
+    "\"spanId\":\"0000000000000004\",\"startTimeUnixNano\":\"1700000000000000000\",\"status\":{},\
+\"traceId\":\"00000000000000000000000000000400\"}]}]}]}",
+    "\"spanId\":\"0000000000000005\",\"startTimeUnixNano\":\"1700000000000000000\",\"status\":{},\
+\"traceId\":\"00000000000000000000000000000900\"}]}]}]}",
+    "\"spanId\":\"0000000000000001\",\"startTimeUnixNano\":\"1700000000000000000\",\"status\":{},\
+\"traceId\":\"00000000000000000000000000000100\"}]}]}]}",
+];
+
+/// Their links.
+const LINKED: [&str; 5] = [
+    "\"links\":[{\"spanId\":\"0000000000000004\",\
+\"traceId\":\"00000000000000000000000000000400\"}],",
+    "\"links\":[],",
+    "\"links\":[{\"spanId\":\"0000000000000002\",\
+\"traceId\":\"00000000000000000000000000000100\"}],",
+    "\"links\":[{\"spanId\":\"0000000000000009\",\
+\"traceId\":\"00000000000000000000000000000900\"}],",
+    "\"links\":[],",
+];
+
+#[test]
+fn each_root_has_a_trace(rt: HostRuntime) -> Result<(), Fail> {
+    let alloc = rt.alloc();
+    let (sites, trace) = (sites(alloc)?, trace_of_shop(alloc)?);
+    let lines = otlp_traces(alloc, &trace, &Hundreds, &three_roots(), names(&sites), 1)?;
+    assert!(rt; lines.len() == 5);
+    for place in 0..5 {
+        assert!(rt; lines[place].as_str().ends_with(TRACED[place]));
+        assert!(rt; lines[place].as_str().contains(LINKED[place]));
+    }
+    Ok(())
+}
+
+/// The number of the second root, which is four times that of the first, of which 2 were carried.
+const SEEDED: &str = "\"traceId\":\"000000000000abcd78dde6e5fd29f054\"}]}]}]}";
+
+#[test]
+fn seeds_give_numbers(rt: HostRuntime) -> Result<(), Fail> {
+    let alloc = rt.alloc();
+    let (sites, trace) = (sites(alloc)?, trace_of_shop(alloc)?);
+    let ids = SeededTraces(0xabcd);
+    let lines = otlp_traces(alloc, &trace, &ids, &three_roots(), names(&sites), 1)?;
+    assert!(rt; lines.len() == 5);
+    let first = "\"traceId\":\"000000000000abcd9e3779b97f4a7c15\"}]}]}]}";
+    assert!(rt; lines[0].as_str().ends_with(first));
+    assert!(rt; lines[2].as_str().ends_with(SEEDED));
     Ok(())
 }
 

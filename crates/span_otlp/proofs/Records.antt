@@ -22,8 +22,10 @@ record_depth : (trace : Trace) (table : Table) (name : Named) (p : Point) → de
 record_depth trace table name p =
     dropped_within (missing table p) 3 ((codes "timeUnixNano", nanos trace p.time)
     ∷ (codes "severityText", string (leveled name)) ∷ (codes "severityNumber", whole (severity name))
-    ∷ (codes "body", typed_data (Words (called name))) ∷ (codes "attributes", attributes_of (record_known name p.lane.0) name.given) ∷ [])
-    (omega arith, (omega arith, (omega arith, (omega (arith, typed_depth (Words (called name))), (attributes_depth (record_known name p.lane.0) name.given, tt)))))
+    ∷ (codes "body", typed_data (Words (called name))) ∷ (codes "attributes", attributes_of (record_known name p.lane.0) name.given) ∷ []) (
+      omega arith,
+      (omega arith, (omega arith, (omega (arith, typed_depth (Words (called name))), (attributes_depth (record_known name p.lane.0) name.given, tt)))),
+    )
 
 record_within : (trace : Trace) (table : Table) (p : Point) (what : Happening) → IsWithin 6 (record_of trace table p what)
 record_within trace table p (Sent callsite None) = omega (arith, record_depth trace table (event_named table p callsite) p)

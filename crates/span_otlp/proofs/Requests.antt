@@ -42,19 +42,19 @@ in_front None ds = refl
 in_front (Some d) ds = refl
 
 -- one more point is looked at, and the span that closes there, if one does, is put behind the others
-pub span_more : (trace : Trace) (table : Table)
+pub span_more : (trace : Trace) (traces : ℕ → ℕ) (table : Table)
     (named : ℕ → Named) (all : List Point) (i : ℕ) (d : Point) (old : List Data) (o : Option Data) (whole : List Data)
-    → i < length all → o ≡ span_at trace table named (take (i + 1) all) (get_or all i d) (get_or all i d).what
-    → old ++ spans_from trace table named (take i all) (drop i all) ≡ whole
-    → (old ++ option_to_list o) ++ spans_from trace table named (take (i + 1) all) (drop (i + 1) all) ≡ whole
-span_more trace table named all i d old o whole within due so_far =
+    → i < length all → o ≡ span_at trace traces table named (take (i + 1) all) (get_or all i d) (get_or all i d).what
+    → old ++ spans_from trace traces table named (take i all) (drop i all) ≡ whole
+    → (old ++ option_to_list o) ++ spans_from trace traces table named (take (i + 1) all) (drop (i + 1) all) ≡ whole
+span_more trace traces table named all i d old o whole within due so_far =
     let before = take i all in
     let point = get_or all i d in
-    let rest = spans_from trace table named (before ++ point ∷ []) (drop (i + 1) all) in
-    let here : option_to_list o ++ rest ≡ spans_from trace table named before (drop i all) =
-    sym (in_front o rest) ∙ ap (λ r. cons_option r rest) (due ∙ ap (λ ps. span_at trace table named ps point point.what) (take_more all i d within))
-    ∙ sym (ap (spans_from trace table named before) (drop_more all i d within)) in
-    ap (λ b. (old ++ option_to_list o) ++ spans_from trace table named b (drop (i + 1) all)) (take_more all i d within)
+    let rest = spans_from trace traces table named (before ++ point ∷ []) (drop (i + 1) all) in
+    let here : option_to_list o ++ rest ≡ spans_from trace traces table named before (drop i all) =
+    sym (in_front o rest) ∙ ap (λ r. cons_option r rest) (due ∙ ap (λ ps. span_at trace traces table named ps point point.what) (take_more all i d within))
+    ∙ sym (ap (spans_from trace traces table named before) (drop_more all i d within)) in
+    ap (λ b. (old ++ option_to_list o) ++ spans_from trace traces table named b (drop (i + 1) all)) (take_more all i d within)
     ∙ append_assoc old (option_to_list o) rest ∙ ap (λ ds. old ++ ds) here ∙ so_far
 
 one_typed : (key : List ℕ) (d : Data) → depth d ≤ 0 → depth (typed key d) ≤ 1
@@ -108,42 +108,43 @@ status_depth : (failed : Bool) → depth (status_value failed) ≤ 1
 status_depth true = object_within 0 ((codes "code", whole 2) ∷ []) (omega arith, tt)
 status_depth false = omega arith
 
-link_depth : (trace : Trace) (from : Id) → depth (link_value trace from) ≤ 1
-link_depth trace from =
-    object_within 0 ((codes "traceId", string (trace_id trace)) ∷ (codes "spanId", string (span_id (Some (number_of from)))) ∷ [])
+link_depth : (traces : ℕ → ℕ) (from : Id) → depth (link_value traces from) ≤ 1
+link_depth traces from =
+    object_within 0 ((codes "traceId", string (trace_id (traces (number_of from)))) ∷ (codes "spanId", string (span_id (Some (number_of from)))) ∷ [])
     (omega arith, (omega arith, tt))
 
-link_within : (b : Bool) (trace : Trace) (from : Id) → IsWithin 1 (if b then Some (link_value trace from) else None)
-link_within true trace from = link_depth trace from
-link_within false trace from = tt
+link_within : (b : Bool) (traces : ℕ → ℕ) (from : Id) → IsWithin 1 (if b then Some (link_value traces from) else None)
+link_within true traces from = link_depth traces from
+link_within false traces from = tt
 
-one_link : (trace : Trace) (id : Id) (what : Happening) → IsWithin 1 (link_of trace id what)
-one_link trace id (Followed span from) = link_within (number_of span == number_of id) trace from
-one_link trace id (Sent callsite found) = tt
-one_link trace id (Entered x) = tt
-one_link trace id (Left x) = tt
-one_link trace id (Opened x callsite parent) = tt
-one_link trace id (Closed x) = tt
-one_link trace id (Recorded x) = tt
-one_link trace id (Renamed x other) = tt
+one_link : (traces : ℕ → ℕ) (id : Id) (what : Happening) → IsWithin 1 (link_of traces id what)
+one_link traces id (Followed span from) = link_within (number_of span == number_of id) traces from
+one_link traces id (Sent callsite found) = tt
+one_link traces id (Entered x) = tt
+one_link traces id (Left x) = tt
+one_link traces id (Opened x callsite parent) = tt
+one_link traces id (Closed x) = tt
+one_link traces id (Recorded x) = tt
+one_link traces id (Renamed x other) = tt
 
-links_depth : (trace : Trace) (id : Id) (since : List Point) → depth (array (items_of (links_of trace id since))) ≤ 2
-links_depth trace id since = omega (arith, items_within 1 (λ p. link_of trace id p.what) (λ p. one_link trace id p.what) since)
+links_depth : (traces : ℕ → ℕ) (id : Id) (since : List Point) → depth (array (items_of (links_of traces id since))) ≤ 2
+links_depth traces id since = omega (arith, items_within 1 (λ p. link_of traces id p.what) (λ p. one_link traces id p.what) since)
 
 events_depth : (trace : Trace) (table : Table) (id : Id) (since : List Point) → depth (array (items_of (events_of trace table id since))) ≤ 5
 events_depth trace table id since =
     omega (arith, items_within 4 (λ p. event_of trace table id p p.what) (λ p. one_event trace table id p p.what) since)
 
-span_depth : (trace : Trace) (table : Table) (name : Named) (span : ClosedSpan) (life : List Point) → depth (span_value trace table name span life) ≤ 6
-span_depth trace table name span life =
+span_depth : (trace : Trace) (traces : ℕ → ℕ) (table : Table) (name : Named) (span : ClosedSpan) (life : List Point)
+    → depth (span_value trace traces table name span life) ≤ 6
+span_depth trace traces table name span life =
     let x = number_of span.id in
     let known = span_known name span.opening.lane.0 (busy_in life x) (idle_in life x) in
     dropped_within (dropped_by table x life) 5 ((codes "status", status_value (has_error table.sites.now span.id life))
-    ∷ (codes "links", array (items_of (links_of trace span.id life))) ∷ (codes "events", array (items_of (events_of trace table span.id life)))
-    ∷ (codes "attributes", attributes_of known name.given) ∷ (codes "name", string (called name)) ∷ span_head trace span) (
+    ∷ (codes "links", array (items_of (links_of traces span.id life))) ∷ (codes "events", array (items_of (events_of trace table span.id life)))
+    ∷ (codes "attributes", attributes_of known name.given) ∷ (codes "name", string (called name)) ∷ span_head trace traces span) (
       omega (arith, status_depth (has_error table.sites.now span.id life)),
       (
-        omega (arith, links_depth trace span.id life),
+        omega (arith, links_depth traces span.id life),
         (
           events_depth trace table span.id life,
           (
@@ -190,25 +191,25 @@ pub request_depth : (signal : Signal) (trace : Trace) (ds : List Data)
 request_depth Spans trace ds h = under_depth (codes "resourceSpans") (codes "scopeSpans") (codes "spans") trace ds h
 request_depth Logs trace ds h = under_depth (codes "resourceLogs") (codes "scopeLogs") (codes "logRecords") trace ds h
 
-closed_depth : (trace : Trace) (table : Table) (name : Named) (id : Id) (close : Point) (since : List Point)
-    → IsWithin 6 (span_of trace table name id close since)
-closed_depth trace table name id close [] = tt
-closed_depth trace table name id close (opening ∷ since) =
-    let span : ClosedSpan = record { id = id; opening = opening; close = close } in span_depth trace table name span (opening ∷ since)
+closed_depth : (trace : Trace) (traces : ℕ → ℕ) (table : Table) (name : Named) (id : Id) (close : Point) (since : List Point)
+    → IsWithin 6 (span_of trace traces table name id close since)
+closed_depth trace traces table name id close [] = tt
+closed_depth trace traces table name id close (opening ∷ since) =
+    let span : ClosedSpan = record { id = id; opening = opening; close = close } in span_depth trace traces table name span (opening ∷ since)
 
-point_depth : (trace : Trace) (table : Table) (named : ℕ → Named) (before : List Point) (p : Point) (what : Happening)
-    → IsWithin 6 (span_at trace table named before p what)
-point_depth trace table named before p (Closed id) = closed_depth trace table (named (number_of id)) id p (since_opening (number_of id) before)
-point_depth trace table named before p (Sent callsite parent) = tt
-point_depth trace table named before p (Entered x) = tt
-point_depth trace table named before p (Left x) = tt
-point_depth trace table named before p (Opened x callsite parent) = tt
-point_depth trace table named before p (Recorded x) = tt
-point_depth trace table named before p (Followed x other) = tt
-point_depth trace table named before p (Renamed x other) = tt
+point_depth : (trace : Trace) (traces : ℕ → ℕ) (table : Table) (named : ℕ → Named) (before : List Point) (p : Point) (what : Happening)
+    → IsWithin 6 (span_at trace traces table named before p what)
+point_depth trace traces table named before p (Closed id) = closed_depth trace traces table (named (number_of id)) id p (since_opening (number_of id) before)
+point_depth trace traces table named before p (Sent callsite parent) = tt
+point_depth trace traces table named before p (Entered x) = tt
+point_depth trace traces table named before p (Left x) = tt
+point_depth trace traces table named before p (Opened x callsite parent) = tt
+point_depth trace traces table named before p (Recorded x) = tt
+point_depth trace traces table named before p (Followed x other) = tt
+point_depth trace traces table named before p (Renamed x other) = tt
 
 -- a span is flat enough for a request
-pub due_depth : (trace : Trace) (table : Table) (named : ℕ → Named) (all : List Point) (i : ℕ) (d : Point) (o : Option Data)
-    → o ≡ span_at trace table named (take (i + 1) all) (get_or all i d) (get_or all i d).what → IsWithin 6 o
-due_depth trace table named all i d o e =
-    subst (IsWithin 6) (sym e) (point_depth trace table named (take (i + 1) all) (get_or all i d) (get_or all i d).what)
+pub due_depth : (trace : Trace) (traces : ℕ → ℕ) (table : Table) (named : ℕ → Named) (all : List Point) (i : ℕ) (d : Point) (o : Option Data)
+    → o ≡ span_at trace traces table named (take (i + 1) all) (get_or all i d) (get_or all i d).what → IsWithin 6 o
+due_depth trace traces table named all i d o e =
+    subst (IsWithin 6) (sym e) (point_depth trace traces table named (take (i + 1) all) (get_or all i d) (get_or all i d).what)

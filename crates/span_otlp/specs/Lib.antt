@@ -3,6 +3,8 @@ pub mod Batch
 pub mod Dropped
 pub mod LogRecord
 pub mod Otlp
+pub mod Root
+pub mod TraceId
 pub mod TraceParent
 pub mod Value
 pub mod private

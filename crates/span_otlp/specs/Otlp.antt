@@ -19,6 +19,7 @@ use Rattle.span_times.specs.declared.kept.Table.{Table}
 use Rattle.span_otlp.specs.Attribute.{attributes_of}
 use Rattle.span_otlp.specs.Batch.{request_value}
 use Rattle.span_otlp.specs.Dropped.{dropped_by, missing, with_dropped}
+use Rattle.span_otlp.specs.Root.{root_in}
 pub use Rattle.span_export.specs.Json.{AllMean}
 use Rattle.span_export.specs.Json.{members, object_of, whole}
 use Rattle.span_export.specs.Site.{Named, called, event_named, leveled, named_in, site_numbered, targeted}
@@ -28,8 +29,8 @@ use Rattle.span_otlp.specs.declared.otlp.Closed.{Closed as ClosedSpan}
 use Rattle.span_otlp.specs.declared.otlp.Trace.{Trace}
 
 -- the number of a trace as 32 hex digits
-abbrev pub trace_id : Trace → List ℕ
-trace_id trace = encode_lower (to_be_bytes w128 trace.id)
+abbrev pub trace_id : ℕ → List ℕ
+trace_id n = encode_lower (to_be_bytes w128 n)
 
 -- the number of a span as 16 hex digits, and none where there is no span
 abbrev pub span_id : Option ℕ → List ℕ
@@ -72,21 +73,21 @@ event_of trace table id p other = None
 abbrev pub events_of : Trace → Table → Id → List Point → List Data
 events_of trace table id since = filter_map (λ p. event_of trace table id p p.what) since
 
--- a link to a span of this trace
-abbrev pub link_value : Trace → Id → Data
-link_value trace from =
-    object_of ((codes "traceId", string (trace_id trace))
+-- a link to a span, by the traces of spans
+abbrev pub link_value : (ℕ → ℕ) → Id → Data
+link_value traces from =
+    object_of ((codes "traceId", string (trace_id (traces (number_of from))))
     ∷ (codes "spanId", string (span_id (Some (number_of from)))) ∷ [])
 
 -- the link of what happened, if this span follows from another by it
-abbrev pub link_of : Trace → Id → Happening → Option Data
-link_of trace id (Followed span from) =
-    if number_of span == number_of id then Some (link_value trace from) else None
-link_of trace id other = None
+abbrev pub link_of : (ℕ → ℕ) → Id → Happening → Option Data
+link_of traces id (Followed span from) =
+    if number_of span == number_of id then Some (link_value traces from) else None
+link_of traces id other = None
 
 -- the links of a span among these points, to the spans that it follows from
-abbrev pub links_of : Trace → Id → List Point → List Data
-links_of trace id since = filter_map (λ p. link_of trace id p.what) since
+abbrev pub links_of : (ℕ → ℕ) → Id → List Point → List Data
+links_of traces id since = filter_map (λ p. link_of traces id p.what) since
 
 -- a site has the level ERROR
 abbrev pub is_of_errors : Option Site → Bool
@@ -111,26 +112,27 @@ abbrev pub parent_of : Trace → Happening → Option ℕ
 parent_of trace (Opened id callsite (Some parent)) = Some (number_of parent)
 parent_of trace other = trace.parent
 
--- which span it is, and when it opened and closed
-abbrev pub span_head : Trace → ClosedSpan → List (List ℕ × Data)
-span_head trace span =
-    (codes "traceId", string (trace_id trace))
+-- which span it is, of which trace, and when it opened and closed
+abbrev pub span_head : Trace → (ℕ → ℕ) → ClosedSpan → List (List ℕ × Data)
+span_head trace traces span =
+    (codes "traceId", string (trace_id (traces (number_of span.id))))
     ∷ (codes "spanId", string (span_id (Some (number_of span.id))))
     ∷ (codes "parentSpanId", string (span_id (parent_of trace span.opening.what)))
     ∷ (codes "kind", whole 1) ∷ (codes "startTimeUnixNano", nanos trace span.opening.time)
     ∷ (codes "endTimeUnixNano", nanos trace span.close.time) ∷ []
 
--- a span that closed, of which these are the points from its opening to its close
-abbrev pub span_value : Trace → Table → Named → ClosedSpan → List Point → Data
-span_value trace table site span life =
+-- a span that closed, of which these are the points from its opening to its close, by the traces of
+-- spans
+abbrev pub span_value : Trace → (ℕ → ℕ) → Table → Named → ClosedSpan → List Point → Data
+span_value trace traces table site span life =
     let x = number_of span.id in
     let known = span_known site span.opening.lane.0 (busy_in life x) (idle_in life x) in
     object (with_dropped (dropped_by table x life)
     (members ((codes "status", status_value (has_error table.sites.now span.id life))
-    ∷ (codes "links", array (items_of (links_of trace span.id life)))
+    ∷ (codes "links", array (items_of (links_of traces span.id life)))
     ∷ (codes "events", array (items_of (events_of trace table span.id life)))
     ∷ (codes "attributes", attributes_of known site.given)
-    ∷ (codes "name", string (called site)) ∷ span_head trace span)))
+    ∷ (codes "name", string (called site)) ∷ span_head trace traces span)))
 
 -- what was found, or this point and those behind it where it opens the span
 abbrev pub found_or : ℕ → Point → List Point → List Point → List Point
@@ -143,29 +145,38 @@ since_opening x [] = []
 since_opening x (p ∷ ps) = found_or x p ps (since_opening x ps)
 
 -- the span that closes at this point, if these are the points from its opening up to there
-abbrev pub span_of : Trace → Table → Named → Id → Point → List Point → Option Data
-span_of trace table site id close [] = None
-span_of trace table site id close (opening ∷ since) =
+abbrev pub span_of
+    : Trace → (ℕ → ℕ) → Table → Named → Id → Point → List Point → Option Data
+span_of trace traces table site id close [] = None
+span_of trace traces table site id close (opening ∷ since) =
     let span : ClosedSpan = record { id = id; opening = opening; close = close } in
-    Some (span_value trace table site span (opening ∷ since))
+    Some (span_value trace traces table site span (opening ∷ since))
 
 -- the span that closes at this point, the last of these, if one does that one of these opens, by
 -- what spans are called
-abbrev pub span_at : Trace → Table → (ℕ → Named) → List Point → Point → Happening → Option Data
-span_at trace table named ps p (Closed id) =
-    span_of trace table (named (number_of id)) id p (since_opening (number_of id) ps)
-span_at trace table named ps p other = None
+abbrev pub span_at : Trace → (ℕ → ℕ) → Table → (ℕ → Named) → List Point → Point → Happening
+    → Option Data
+span_at trace traces table named ps p (Closed id) =
+    span_of trace traces table (named (number_of id)) id p (since_opening (number_of id) ps)
+span_at trace traces table named ps p other = None
 
 -- the spans that close at these points, behind those before them
-abbrev pub spans_from : Trace → Table → (ℕ → Named) → List Point → List Point → List Data
-spans_from trace table named before [] = []
-spans_from trace table named before (p ∷ rest) =
-    cons_option (span_at trace table named (before ++ p ∷ []) p p.what)
-    (spans_from trace table named (before ++ p ∷ []) rest)
+abbrev pub spans_from
+    : Trace → (ℕ → ℕ) → Table → (ℕ → Named) → List Point → List Point → List Data
+spans_from trace traces table named before [] = []
+spans_from trace traces table named before (p ∷ rest) =
+    cons_option (span_at trace traces table named (before ++ p ∷ []) p p.what)
+    (spans_from trace traces table named (before ++ p ∷ []) rest)
 
--- the spans that close, in the order of the closes, with this table
+-- the spans that close, in the order of the closes, with this table, each in the trace that its
+-- root has
+abbrev pub spans_in : Trace → (ℕ → ℕ) → Table → List Point → List Data
+spans_in trace trace_of table ps =
+    spans_from trace (λ x. trace_of (root_in ps x)) table (named_in table ps) [] ps
+
+-- the spans that close, all in the trace with its number
 abbrev pub spans_of : Trace → Table → List Point → List Data
-spans_of trace table ps = spans_from trace table (named_in table ps) [] ps
+spans_of trace table ps = spans_in trace (λ root. trace.id) table ps
 
 -- a request for each span that closes, in the order of the closes
 abbrev pub requests_of : Trace → Table → List Point → List Data

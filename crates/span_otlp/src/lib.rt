@@ -10,9 +10,12 @@ mod dropped;
 pub mod laws;
 mod log_record;
 mod otlp;
+mod root;
+mod trace_id;
 mod trace_parent;
 mod value;
 
 pub use log_record::otlp_logs;
-pub use otlp::{Scope, Trace, otlp_batches, otlp_lines};
+pub use otlp::{Scope, Trace, otlp_batches, otlp_lines, otlp_traces};
+pub use trace_id::{OneTrace, SeededTraces, TraceIds};
 pub use trace_parent::{TraceParent, WrongTraceParent};

@@ -27,9 +27,9 @@ use std::alloc::{AllocError, Global};
 /// are in the order of the points, each once, in as few requests as that takes. 0 counts as 1.
 ///
 /// A record has the event's name for its body, and the severity of its level. What the event was
-/// given are its attributes, and so are its target and its lane unless a field is called `target` or
-/// `thread.id`; of two fields of one name the later one. Of the trace it needs the service, with its
-/// attributes, and when the clock was at 0.
+/// given are its attributes, and so are its target and its lane unless a field is called `target`
+/// or `thread.id`; of two fields of one name the later one. Of the trace this needs the service,
+/// with its attributes and scope, and when the clock was at 0.
 pub fn otlp_logs(
     alloc: Global,
     trace: &Trace,

@@ -1,21 +1,22 @@
 //! Points as OpenTelemetry's spans, in its JSON.
-ghost use Rattle.std.specs.Int.{to_be_bytes, w128};
 ghost use Rattle.std.specs.Option.{option_copied, option_map};
 ghost use Rattle.std.specs.Prelude.{◌≡◌, [], IfOk, Some, map, string_bytes};
-ghost use Rattle.hex.specs.Hex.{encode_lower};
 ghost use Rattle.serde_json.specs.Data.{string};
 ghost use Rattle.serde_json.specs.View.{members_view, view};
 ghost use Rattle.span_core.specs.Span.{number_of};
 ghost use Rattle.span_otlp.specs.Batch.{AreBatches};
 ghost use Rattle.span_export.specs.Json.{AllMean, AreCompact, members};
-ghost use Rattle.span_otlp.specs.Otlp.{event_of, event_value, events_of, has_error, is_failure, is_of_errors, link_of, link_value, links_of, nanos, parent_of, requests_of, since_opening, span_at, span_head, span_id, span_value, spans_from, spans_of, status_value};
+ghost use Rattle.span_otlp.specs.Otlp.{event_of, event_value, events_of, has_error, is_failure, is_of_errors, link_of, link_value, links_of, nanos, parent_of, requests_of, since_opening, span_at, span_head, span_id, span_value, spans_from, spans_in, spans_of, status_value, trace_id};
 ghost use Rattle.span_export.specs.Site.{event_named, named_by, named_so};
 ghost use Rattle.span_otlp.specs.declared.batch.Signal.TheVariants as signal;
+ghost use Rattle.span_otlp.specs.private.Rooted.{trace_by};
 ghost use Rattle.span_otlp.specs.private.Sent.{AreSent};
 
 use crate::attribute::{event_attributes, span_attributes};
 use crate::batch::{Batches, Plan, Signal};
 use crate::dropped::{dropped_by, missing, put_dropped};
+use crate::root::Roots;
+use crate::trace_id::{OneTrace, TraceIds};
 use crate::trace_parent::TraceParent;
 use serde_json::{Map, Value, json, put};
 use span_core::{Id, Level};
@@ -123,47 +124,83 @@ pub fn otlp_batches(
         (spans_of trace.now table.entry points.now) (map string_bytes lines.items)) }
     ensures compact { IfOk result (λ lines. AreCompact (map string_bytes lines.items)) }
 {
+    otlp_traces(alloc, trace, &OneTrace(trace.id), points, table, most)
+}
+
+/// The requests of `otlp_batches`, but with a trace for each root span: these numbers count in
+/// place of the trace's. A span is in the trace of its root, and a link says that of the span that
+/// it links to.
+///
+/// A span has its parent's root, unless it has no parent. One whose opening isn't among the points
+/// is taken for a root: so hand over all points since the root opened. Roots are below the trace's
+/// parent, if it has one: leave it out.
+pub fn otlp_traces<I: TraceIds>(
+    alloc: Global,
+    trace: &Trace,
+    ids: &I,
+    points: &[Point],
+    table: Table<'_>,
+    most: usize,
+) -> Result<Vec<String>, AllocError>
+    ensures mean { IfOk result (λ lines. AreBatches signal.Spans trace.now most
+        (spans_in trace.now (I.trace_of ids.now) table.entry points.now)
+        (map string_bytes lines.items)) }
+    ensures compact { IfOk result (λ lines. AreCompact (map string_bytes lines.items)) }
+{
     let spans = Spans::of(alloc, points, table)?;
+    let roots = Roots::of(alloc, points)?;
+    let traces = Traces { ids, roots };
     let plan = Plan {
         trace,
         signal: Signal::Spans,
         most,
     };
-    let batches = batches(alloc, plan, table, &spans, points)?;
+    let batches = batches(alloc, plan, &traces, table, &spans, points)?;
     batches.finish(alloc, plan)
 }
 
+/// Which trace each span is in.
+#[derive(Drop)]
+pub(crate) struct Traces<'a, I> {
+    ids: &'a I,
+    roots: Roots,
+}
+
 /// The spans that close at these points, in batches.
-fn batches(
+fn batches<I: TraceIds>(
     alloc: Global,
     plan: Plan<'_>,
+    traces: &Traces<'_, I>,
     table: Table<'_>,
     spans: &Spans<'_>,
     points: &[Point],
 ) -> Result<Batches, AllocError>
     ensures { IfOk result (λ batches. AreSent plan.entry
-        (spans_from plan.entry.trace.now table.entry (named_by spans.now) [] points.now) batches) }
+        (spans_from plan.entry.trace.now (trace_by I.trace_of traces.now) table.entry
+        (named_by spans.now) [] points.now) batches) }
 {
     let mut batches = Batches::new(alloc);
     for (place, point) in points.iter().enumerate() {
-        let span = span_at(alloc, plan.trace, table, spans, &points[..=place], point)?;
+        let life = &points[..=place];
+        let span = span_at(alloc, plan.trace, traces, table, spans, life, point)?;
         batches.add(alloc, plan, span)?;
     }
     Ok(batches)
 }
 
 /// The span that closes at this point, the last of these, if one does that one of these opens.
-fn span_at(
+fn span_at<I: TraceIds>(
     alloc: Global,
     trace: &Trace,
+    traces: &Traces<'_, I>,
     table: Table<'_>,
     spans: &Spans<'_>,
     points: &[Point],
     point: &Point,
 ) -> Result<Option<Value>, AllocError>
     ensures { IfOk result (λ span. option_map view span
-        ≡ span_at trace.now table.entry (named_by spans.now) points.now point.now
-        point.now.what) }
+        ≡ span_at trace.now (trace_by I.trace_of traces.now) table.entry (named_by spans.now)
+        points.now point.now point.now.what) }
 {
     let Happening::Closed(id) = point.what else {
         return Ok(None);
@@ -178,7 +215,7 @@ fn span_at(
         opening: *opening,
         close: *point,
     };
-    Ok(Some(span(alloc, trace, table, name, closed, life)?))
+    Ok(Some(span(alloc, trace, traces, table, name, closed, life)?))
 }
 
 /// The points from the last on that opens a span; none where none does.
@@ -202,18 +239,19 @@ pub(crate) struct Closed {
 }
 
 /// A span, of which these are the points from its opening to its close.
-fn span(
+fn span<I: TraceIds>(
     alloc: Global,
     trace: &Trace,
+    traces: &Traces<'_, I>,
     table: Table<'_>,
     name: Name<'_>,
     closed: Closed,
     life: &[Point],
 ) -> Result<Value, AllocError>
-    ensures { IfOk result (λ span. view span ≡ span_value trace.now table.entry
-        (named_so name.entry) closed life.now) }
+    ensures { IfOk result (λ span. view span ≡ span_value trace.now
+        (trace_by I.trace_of traces.now) table.entry (named_so name.entry) closed life.now) }
 {
-    let mut members = span_head(alloc, trace, closed)?;
+    let mut members = span_head(alloc, trace, traces, closed)?;
     let text = Value::try_from_str(alloc, name.name())?;
     put(&mut members, alloc, "name", text)?;
     let (busy, idle) = (busy_time(life, closed.id), idle_time(life, closed.id));
@@ -221,7 +259,7 @@ fn span(
     put(&mut members, alloc, "attributes", attributes)?;
     let events = Value::Array(events(alloc, trace, table, closed.id, life)?);
     put(&mut members, alloc, "events", events)?;
-    let links = Value::Array(links(alloc, trace, closed.id, life)?);
+    let links = Value::Array(links(alloc, traces, closed.id, life)?);
     put(&mut members, alloc, "links", links)?;
     let failed = has_error(table.sites, life, closed.id);
     put(&mut members, alloc, "status", status(alloc, failed)?)?;
@@ -230,9 +268,14 @@ fn span(
 }
 
 /// Which span it is, and when it opened and closed.
-fn span_head(alloc: Global, trace: &Trace, closed: Closed) -> Result<Map<String, Value>, AllocError>
-    ensures { IfOk result
-        (λ head. members_view head.entries ≡ members (span_head trace.now closed)) }
+fn span_head<I: TraceIds>(
+    alloc: Global,
+    trace: &Trace,
+    traces: &Traces<'_, I>,
+    closed: Closed,
+) -> Result<Map<String, Value>, AllocError>
+    ensures { IfOk result (λ head. members_view head.entries
+        ≡ members (span_head trace.now (trace_by I.trace_of traces.now) closed)) }
 {
     let mut head = Map::new(alloc);
     let end = nanos(alloc, trace, closed.close.time)?;
@@ -244,7 +287,12 @@ fn span_head(alloc: Global, trace: &Trace, closed: Closed) -> Result<Map<String,
     put(&mut head, alloc, "parentSpanId", parent)?;
     let id = span_id(alloc, Some(closed.id.into_u64()))?;
     put(&mut head, alloc, "spanId", id)?;
-    put(&mut head, alloc, "traceId", trace_id(alloc, trace)?)?;
+    put(
+        &mut head,
+        alloc,
+        "traceId",
+        trace_id(alloc, traces, closed.id)?,
+    )?;
     Ok(head)
 }
 
@@ -299,12 +347,18 @@ fn parent_of(trace: &Trace, what: Happening) -> Option<u64>
 }
 
 /// The links of a span among these points, to the spans that it follows from.
-fn links(alloc: Global, trace: &Trace, id: Id, since: &[Point]) -> Result<Vec<Value>, AllocError>
-    ensures { IfOk result (λ links. map view links.items ≡ links_of trace.now id since.now) }
+fn links<I: TraceIds>(
+    alloc: Global,
+    traces: &Traces<'_, I>,
+    id: Id,
+    since: &[Point],
+) -> Result<Vec<Value>, AllocError>
+    ensures { IfOk result (λ links. map view links.items
+        ≡ links_of (trace_by I.trace_of traces.now) id since.now) }
 {
     let mut links = Vec::new(alloc);
     for point in since {
-        if let Some(link) = link_of(alloc, trace, id, point.what)? {
+        if let Some(link) = link_of(alloc, traces, id, point.what)? {
             links.push(link)?;
         }
     }
@@ -312,26 +366,28 @@ fn links(alloc: Global, trace: &Trace, id: Id, since: &[Point]) -> Result<Vec<Va
 }
 
 /// The link of what happened, if this span follows from another by it.
-fn link_of(
+fn link_of<I: TraceIds>(
     alloc: Global,
-    trace: &Trace,
+    traces: &Traces<'_, I>,
     id: Id,
     what: Happening,
 ) -> Result<Option<Value>, AllocError>
-    ensures { IfOk result (λ link. option_map view link ≡ link_of trace.now id what) }
+    ensures { IfOk result (λ link. option_map view link
+        ≡ link_of (trace_by I.trace_of traces.now) id what) }
 {
     match what {
-        Happening::Followed(span, from) if span == id => Ok(Some(link(alloc, trace, from)?)),
+        Happening::Followed(span, from) if span == id => Ok(Some(link(alloc, traces, from)?)),
         _ => Ok(None),
     }
 }
 
-/// A link to a span of this trace.
-fn link(alloc: Global, trace: &Trace, from: Id) -> Result<Value, AllocError>
-    ensures { IfOk result (λ link. view link ≡ link_value trace.now from) }
+/// A link to a span, which has a trace of its own.
+fn link<I: TraceIds>(alloc: Global, traces: &Traces<'_, I>, from: Id) -> Result<Value, AllocError>
+    ensures { IfOk result (λ link. view link
+        ≡ link_value (trace_by I.trace_of traces.now) from) }
 {
     json!(in alloc; {
-        "traceId": trace_id(alloc, trace)?,
+        "traceId": trace_id(alloc, traces, from)?,
         "spanId": span_id(alloc, Some(from.into_u64()))?
     })
 }
@@ -403,11 +459,17 @@ fn event(
     Ok(Value::Object(members))
 }
 
-/// The number of a trace as 32 hex digits.
-fn trace_id(alloc: Global, trace: &Trace) -> Result<Value, AllocError>
-    ensures { IfOk result (λ id. view id ≡ string (encode_lower (to_be_bytes w128 trace.now.id))) }
+/// The number of the trace that a span is in, as 32 hex digits.
+fn trace_id<I: TraceIds>(
+    alloc: Global,
+    traces: &Traces<'_, I>,
+    span: Id,
+) -> Result<Value, AllocError>
+    ensures { IfOk result (λ text. view text
+        ≡ string (trace_id (trace_by I.trace_of traces.now (number_of span)))) }
 {
-    Ok(Value::String(hex::encode(alloc, trace.id.to_be_bytes())?))
+    let number = traces.ids.trace_id(traces.roots.root(span));
+    Ok(Value::String(hex::encode(alloc, number.to_be_bytes())?))
 }
 
 /// The number of a span as 16 hex digits, and none where there is no span.
