@@ -1,14 +1,15 @@
 -- The plan of a picture fits it.
 use Rattle.std.proofs.Common.{◌≡◌, ◌∙◌, ◌<◌, ◌≤◌, ◌+◌, ◌-◌, ◌*◌, ◌/◌, ◌^◌, ◌==◌, ℕ, Bool, true, false, if◌then◌else◌, List, [], ◌∷◌, None, Some}
-use Rattle.std.proofs.Common.{ap, arith, get_or, is_some, length, map, max, min, nat_lt, refl, sym, unwrap_or, mul-le-mul_right}
-use Rattle.std.specs.BTreeMap.{get, is_at}
+use Rattle.std.proofs.Common.{ap, arith, get_or, is_some, length, map, max, min, nat_lt, refl, subst, sym, unwrap_or, mul-le-mul_right}
+use Rattle.std.specs.BTreeMap.{get, is_at, keys}
+use Rattle.std.specs.List.Sorted.{IsStrictlySortedBy}
 use Rattle.std.specs.List.{AllByRecursion}
 use Rattle.std.specs.Option.{option_map_or}
-use Rattle.std.specs.Map.{lookup}
+use Rattle.std.specs.Map.{keys_of, lookup}
 use Rattle.std.specs.Ordering.{nat_cmp}
 use Rattle.std.proofs.lemmas.Bool.{and_parts, eqb-true}
 use Rattle.std.proofs.lemmas.Nat.{div-add-mod', le-div}
-use Rattle.span_export.proofs.Bands.{HasTops, each_found, have_tops, rising_all}
+use Rattle.span_export.proofs.Bands.{HasTops, each_found, have_tops, keys-tops_from, rising_all}
 use Rattle.span_export.proofs.Counts.{count_fits, count_from, count_on, counted_some, counts_fall, counts_fit, counts_split, some_count}
 use Rattle.span_export.proofs.Rows.{IsShallow, all_at, both, overlapping_deeper, rows_fit, rows_suffice, shallow_all, some_row, weaker}
 use Rattle.span_export.specs.Picture.{FitsPicture, IsInBand, area_of, begins_within, has_points, place_of, stays_of, top_in, until}
@@ -112,6 +113,9 @@ module _ (plan : Plan) (ps : List Point) (width : ℕ) (is : IsPlanOf plan (scal
       let second = is_top b in
       omega arith
 
+  in_order : IsStrictlySortedBy nat_cmp (keys plan.tops)
+  in_order = subst (λ (ks : List ℕ). IsStrictlySortedBy nat_cmp ks) (sym (ap keys_of is.tops ∙ keys-tops_from 56 is.rows)) is.sorted
+
   -- where a box is
   record IsPlaced (s : Stay) : Type 0 where
     down : (place_of ps width plan s).y ≡ top_in plan.tops s.lane.0 + s.depth * 24 + 16
@@ -161,7 +165,7 @@ module _ (plan : Plan) (ps : List Point) (width : ℕ) (is : IsPlanOf plan (scal
   pub plan_fits : FitsPicture plan ps width
   plan_fits = record {
     bottom = bottom;
-    bands = record { lanes = all_lanes; inside = is_inside; apart = are_apart };
+    bands = record { once = in_order; lanes = all_lanes; inside = is_inside; apart = are_apart };
     boxes = weaker IsPlaced
         (λ s. IsInBand (max width 320) (top_in plan.tops s.lane.0) (bottom s.lane.0) (place_of ps width plan s)) (stays_of ps) in_band all_placed;
     rows = below_others;

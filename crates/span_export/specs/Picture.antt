@@ -1,6 +1,7 @@
 -- Points as a picture: a box for each time that a lane is in a span.
 use Rattle.std.specs.Prelude.{◌≡◌, ◌≤◌, ◌<◌, ◌+◌, ◌-◌, ◌*◌, ◌/◌, ◌&&◌, ◌==◌, ℕ, Bool, true, AllPairs, IsTrue, if◌then◌else◌, max, nat_le, nat_lt, List, [], ◌∷◌, ◌++◌, None, Some, codes, decimal, flat_map, fold, is_none, is_some, length, map, unwrap_or}
-use Rattle.std.specs.BTreeMap.{BTreeMap, get}
+use Rattle.std.specs.BTreeMap.{BTreeMap, get, keys}
+use Rattle.std.specs.List.Sorted.{IsStrictlySortedBy}
 use Rattle.std.specs.List.{AllByRecursion, list_any}
 use Rattle.std.specs.Option.{option_map_or}
 use Rattle.std.specs.Ordering.{nat_cmp}
@@ -149,9 +150,11 @@ place_of ps width plan s = area_of (scale_of ps width) (top_in plan.tops s.lane.
 abbrev pub begins_within : Stay → Stay → Bool
 begins_within s t = s.lane.0 == t.lane.0 && option_map_or (nat_lt t.entered) s.left true
 
--- lanes with points, and no others, have bands between their tops and these bottoms: below the
--- head, with room for marks and a name, within the height, and below those of smaller numbers
+-- lanes with points, and no others, have bands between their tops and these bottoms, each once:
+-- below the head, with room for marks and a name, within the height, and below those of smaller
+-- numbers
 pub record HasBands (plan : Plan) (ps : List Point) (bottom : ℕ → ℕ) : Type 0 where
+  pub once : IsStrictlySortedBy nat_cmp (keys plan.tops)
   pub lanes : (lane : ℕ) → is_some (get nat_cmp plan.tops lane) ≡ has_points ps lane
   pub inside : (lane : ℕ) → IsTrue (has_points ps lane)
       → (56 ≤ top_in plan.tops lane) × (top_in plan.tops lane + 40 ≤ bottom lane)
@@ -167,7 +170,7 @@ pub record IsInBand (width top bottom : ℕ) (area : Area) : Type 0 where
 
 -- a plan fits a picture of points: boxes lie in the bands of their lanes; one that begins while
 -- another of its lane lasts lies in a row below that, if time never goes back; later times lie no
--- further left; and the lines of the axis reach as far as the points
+-- further left; and nine lines of the axis reach beyond the points
 pub record FitsPicture (plan : Plan) (ps : List Point) (width : ℕ) : Type 0 where
   pub bottom : ℕ → ℕ
   pub bands : HasBands plan ps bottom
