@@ -6,8 +6,8 @@ use crate::order::{Order, Work};
 use crate::rounds;
 use anyhow::ensure;
 use span_dispatch::Dispatch;
-use span_export::{Trace, otlp_lines};
 use span_layers::Observer;
+use span_otlp::{Scope, Trace, otlp_lines};
 use span_registry::Registry;
 use span_sender::{Answer, BatchConfig, Poster, RetryPolicy, Sender, SenderGuard};
 use span_stacks::SubscriberExt;
@@ -158,6 +158,7 @@ fn made<R: Wait, S: HasObserver<Observer = Timeline<Counted>> + Drop>(
         began: 0,
         parent: None,
         attributes: Vec::new(alloc),
+        scope: Scope::unknown(alloc),
     };
     let mut handed = 0u64;
     for _ in 0..order.rounds / AT_ONCE {
