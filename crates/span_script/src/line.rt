@@ -3,7 +3,7 @@ ghost use Rattle.std.specs.Prelude.{◌≡◌, ◌<◌, ◌∷◌, ⊤, codes, I
 ghost use Rattle.std.specs.Char.{is_ascii_lowercase};
 ghost use Rattle.std.specs.List.{list_all};
 ghost use Rattle.span_script.specs.Misfit.{IsMisfit, IsNoFirst};
-ghost use Rattle.span_script.specs.Script.{digit, is_keyword, is_label, is_letter_or_digit, is_text, lane_words, level_word, mute_words, parent_words, tail_words, texts_in, word_of, words_of, IsBehind, IsDigit, IsLaneAndName, IsLater, IsLine, IsName, IsParentName, IsTail, Spells};
+ghost use Rattle.span_script.specs.Script.{digit, has_return, is_keyword, is_label, is_letter_or_digit, is_text, lane_words, level_word, mute_words, parent_words, tail_words, texts_in, word_of, words_of, IsBehind, IsDigit, IsLaneAndName, IsLater, IsLine, IsName, IsParentName, IsTail, Spells};
 
 use crate::misfit::{Misfit, Taken, end, first, misfit_of};
 use crate::reason::Reason;
@@ -373,7 +373,13 @@ fn label<'w, 'a>(words: &'w [&'a str]) -> Taken<'w, 'a, &'a str>
 fn is_text(word: &str) -> bool
     ensures { result ≡ is_text word.now }
 {
-    !word.is_empty() && !word.bytes().any(|byte| byte == b'\r')
+    !word.is_empty() && !has_return(word)
+}
+
+fn has_return(word: &str) -> bool
+    ensures { result ≡ has_return word.now }
+{
+    word.bytes().any(|byte| byte == b'\r')
 }
 
 /// The word is made as a label is, and has no other meaning.

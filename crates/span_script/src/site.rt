@@ -17,11 +17,11 @@ pub fn span_site<'w, 'a>(words: &'w [&'a str]) -> Taken<'w, 'a, Metadata>
 {
     let (word, behind) = first(words)?;
     let site = match word {
-        "0" => span_of(0, "s0", Level::ERROR),
-        "1" => span_of(1, "s1", Level::WARN),
-        "2" => span_of(2, "s2", Level::INFO),
-        "3" => span_of(3, "s3", Level::DEBUG),
-        "4" => span_of(4, "s4", Level::TRACE),
+        "0" => site_of(0, "s0", Level::ERROR, Kind::SPAN, &[]),
+        "1" => site_of(1, "s1", Level::WARN, Kind::SPAN, &[]),
+        "2" => site_of(2, "s2", Level::INFO, Kind::SPAN, &[]),
+        "3" => site_of(3, "s3", Level::DEBUG, Kind::SPAN, &[]),
+        "4" => site_of(4, "s4", Level::TRACE, Kind::SPAN, &[]),
         _ => return Err(misfit_of(words, Reason::UnknownWord)),
     };
     Ok((site, behind))
@@ -36,11 +36,11 @@ pub fn event_site<'w, 'a>(words: &'w [&'a str]) -> Taken<'w, 'a, Metadata>
 {
     let (word, behind) = first(words)?;
     let site = match word {
-        "5" => event_of(5, "s5", Level::ERROR),
-        "6" => event_of(6, "s6", Level::WARN),
-        "7" => event_of(7, "s7", Level::INFO),
-        "8" => event_of(8, "s8", Level::DEBUG),
-        "9" => event_of(9, "s9", Level::TRACE),
+        "5" => site_of(5, "s5", Level::ERROR, Kind::EVENT, &["mute"]),
+        "6" => site_of(6, "s6", Level::WARN, Kind::EVENT, &["mute"]),
+        "7" => site_of(7, "s7", Level::INFO, Kind::EVENT, &["mute"]),
+        "8" => site_of(8, "s8", Level::DEBUG, Kind::EVENT, &["mute"]),
+        "9" => site_of(9, "s9", Level::TRACE, Kind::EVENT, &["mute"]),
         _ => return Err(misfit_of(words, Reason::UnknownWord)),
     };
     Ok((site, behind))
@@ -59,26 +59,20 @@ pub fn any_site<'w, 'a>(words: &'w [&'a str]) -> Taken<'w, 'a, Metadata>
     }
 }
 
-fn span_of(callsite: u64, name: &'static str, level: Level) -> Metadata
+/// A callsite of scripts, with these fields.
+fn site_of(
+    callsite: u64,
+    name: &'static str,
+    level: Level,
+    kind: Kind,
+    fields: &'static [&'static str],
+) -> Metadata
     ensures callsite { callsite_of result ≡ callsite }
     ensures name { name_of result ≡ name.now }
     ensures target { target_of result ≡ codes "script" }
     ensures level { level_of result ≡ level }
-    ensures kind { kind_of result ≡ Kind.SPAN }
-    ensures fields { texts_in (names_of (fields_of result)) ≡ [] }
+    ensures kind { kind_of result ≡ kind }
+    ensures fields { texts_in (names_of (fields_of result)) ≡ texts_in fields.now }
 {
-    let fields = FieldSet::new(&[]);
-    Metadata::new(callsite, name, "script", level, Kind::SPAN, fields)
-}
-
-fn event_of(callsite: u64, name: &'static str, level: Level) -> Metadata
-    ensures callsite { callsite_of result ≡ callsite }
-    ensures name { name_of result ≡ name.now }
-    ensures target { target_of result ≡ codes "script" }
-    ensures level { level_of result ≡ level }
-    ensures kind { kind_of result ≡ Kind.EVENT }
-    ensures fields { texts_in (names_of (fields_of result)) ≡ codes "mute" ∷ [] }
-{
-    let fields = FieldSet::new(&["mute"]);
-    Metadata::new(callsite, name, "script", level, Kind::EVENT, fields)
+    Metadata::new(callsite, name, "script", level, kind, FieldSet::new(fields))
 }

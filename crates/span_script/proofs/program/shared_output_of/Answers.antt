@@ -9,7 +9,7 @@ pub returns-clause-printed : goal.returns-clause-printed
 returns-clause-printed g c =
     let script = c.in_ok-script.script in
     one_ok c.text_by.result (λ r. GivesShared (stack_of script) script (string_bytes r.0))
-    (λ r. PrintsShared c.args.text.now (string_bytes r.0)) c.text_by.ensures.printed
+    (λ r. PrintsShared c.args.text.now (string_bytes r.0)) c.text_by.ensures.shared
     (λ r printed. record {
       stack = stack_of script;
       lines = lines_of script;
