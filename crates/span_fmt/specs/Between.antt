@@ -30,7 +30,7 @@ next_place Outside b = if b == 34 then Inside else Outside
 next_place Inside b = if b == 34 then Outside else (if b == 92 then Guarded else Inside)
 next_place Guarded b = Inside
 
--- a byte that is read inside quotes; the quote that ends them is
+-- a byte that is read inside quotes; the quote that ends them counts as inside
 abbrev pub inner : Place → ℕ → List ℕ
 inner Outside b = []
 inner Inside b = b ∷ []
@@ -82,7 +82,7 @@ pub record IsBareSite (m : Metadata) : Type 0 where
   pub target : IsBare (target_of m)
   pub name : IsBare (name_of m)
 
--- a program has no quote in the names of its own that an event's line shows
+-- a program has no quote in its own names: of an event, and of the spans that there are
 pub record IsBareEvent (e : Event) (v : View) (given : SpanValues) : Type 0 where
   pub site : IsBareSite (event_metadata e)
   pub fields : AreBare (event_values e)
@@ -94,7 +94,7 @@ abbrev pub line_of : Event → View → SpanValues → List ℕ
 line_of e v given = event_line e v (λ x. fields_text (given x))
 
 -- between the quotes of a line stand the texts that it tells, in order, and nothing else; so two
--- lines that are the same tell the same texts, and differ in nothing that a text says
+-- lines that are the same tell the same texts
 pub record LinesTellTheirTexts : Type 0 where
   pub told : (e : Event) (v : View) (given : SpanValues) → IsBareEvent e v given
       → between Outside (line_of e v given) ≡ quoted_one_by_one (texts_told e v given)

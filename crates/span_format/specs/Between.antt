@@ -48,7 +48,7 @@ told_in layout.Pretty look e v given =
 abbrev pub texts_told : Looks → Event → View → SpanValues → List (List ℕ)
 texts_told look = told_in look.layout look
 
--- a program has no quote in the names of its own that an event's line shows
+-- a program has no quote in its own names: of an event, and of the spans that there are
 pub record IsBareEvent (e : Event) (v : View) (given : SpanValues) : Type 0 where
   pub site : IsBareSite (event_metadata e)
   pub fields : AreBare (event_values e)
@@ -60,7 +60,7 @@ abbrev pub line_of : Looks → Event → View → SpanValues → List ℕ
 line_of look e v given = event_line look e v (λ x. fields_text look.layout (given x))
 
 -- between the quotes of a line stand the texts that it tells, in order, and nothing else; so two
--- lines that are the same tell the same texts, and differ in nothing that a text says
+-- lines that are the same tell the same texts
 pub record FormatsTellTheirTexts : Type 0 where
   pub told : (look : Looks) (e : Event) (v : View) (given : SpanValues) → IsBareEvent e v given
       → between Outside (line_of look e v given) ≡ quoted_one_by_one (texts_told look e v given)

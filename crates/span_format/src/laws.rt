@@ -28,8 +28,8 @@ pub fn what_open_spans_were_given_is_kept()
 {}
 
 /// What a line of any layout has between its quotes are the texts that it tells, in order, whatever
-/// they say: none poses as another, nor as a line, a span, a field or a number. So of lines that
-/// are the same the texts are. The names in it, which are the program's own, have no quotes.
+/// they say: none ends early, or poses as another. So of lines that are the same the texts are.
+/// Names and floats' texts, which are the program's own, are to have no quotes.
 pub fn lines_tell_their_texts()
     ensures { FormatsTellTheirTexts }
 {}

@@ -1,5 +1,5 @@
 -- Numbers of traces, by those of their root spans.
-use Rattle.std.specs.Prelude.{◌≡◌, ◌≢◌, ◌<◌, ◌+◌, ◌*◌, ◌%◌, ◌^◌, ℕ}
+use Rattle.std.specs.Prelude.{◌+◌, ◌*◌, ◌%◌, ◌^◌, ℕ}
 
 -- an odd number, by which those of roots are spread over 64 bits
 abbrev pub spread : ℕ
@@ -8,12 +8,3 @@ spread = 0x9E3779B97F4A7C15
 -- the number of a root's trace: the seed, and behind it the root's number, spread
 abbrev pub seeded : ℕ → ℕ → ℕ
 seeded seed root = seed * 2 ^ 64 + (root * spread) % 2 ^ 64
-
--- of one seed, different roots have different traces
-abbrev pub SeededTracesDiffer : Type 0
-SeededTracesDiffer =
-    (seed a b : ℕ) → a < 2 ^ 64 → b < 2 ^ 64 → seeded seed a ≡ seeded seed b → a ≡ b
-
--- no seed gives a root, whose number is never 0, the number 0
-abbrev pub SeededTracesAreSome : Type 0
-SeededTracesAreSome = (seed root : ℕ) → 0 < root → root < 2 ^ 64 → 0 < seeded seed root

@@ -95,9 +95,10 @@ impl Trace {
 /// A span has the parent and the events that the timeline found: where it stands under a filter,
 /// the nearest span above that this let by; a span without one has the trace's. Each span that it
 /// follows from is a link. Events and links are those behind the opening, so hand over all points
-/// since then. What a span or an event was given are its attributes, and so are its level and its
-/// target unless a field is called `level` or `target`; of two fields of one name the later one. A
-/// span in which an event of level ERROR came has the status of an error.
+/// since then. What a span or an event was given are its attributes, and so are its `level`, its
+/// `target`, its lane as `thread.id`, and of a span `busy_ns` and `idle_ns`, unless a field is
+/// called so; of two fields of one name the later one. A span in which an event of level ERROR came
+/// has the status of an error.
 pub fn otlp_lines(
     alloc: Global,
     trace: &Trace,
@@ -133,7 +134,7 @@ pub fn otlp_batches(
 ///
 /// A span has its parent's root, unless it has no parent. One whose opening isn't among the points
 /// is taken for a root: so hand over all points since the root opened. Roots are below the trace's
-/// parent, if it has one: leave it out.
+/// parent, if it has one, which would be a span of another trace: leave it out.
 pub fn otlp_traces<I: TraceIds>(
     alloc: Global,
     trace: &Trace,

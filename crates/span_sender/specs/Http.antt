@@ -13,7 +13,7 @@ module _ {N : Type 0} where
   abbrev pub net_of : HttpPoster N → N
   net_of poster = poster.net
 
-  -- the host that it posts to
+  -- the host that it was made with
   abbrev pub host_of : HttpPoster N → List ℕ
   host_of poster = string_bytes poster.host
 
@@ -24,15 +24,15 @@ request_head host length =
     ++ codes "\r\nContent-Type: application/json\r\nContent-Length: " ++ decimal length
     ++ codes "\r\nConnection: close\r\n\r\n"
 
--- bytes begin with the head of an answer that has this status
+-- bytes begin with the head of an answer that has this status, whatever it says of another try
 abbrev pub IsAnswerOf : List ℕ → Answer → Type 0
 IsAnswerOf bytes (Status code after) =
     (head : ResponseHead) × (rest : List ℕ) × ReadsResponse bytes head rest
     × (code ≡ status_code head)
 IsAnswerOf bytes Failed = ⊥
 
--- bytes were read that begin with the head of an answer with this status; a reader that is known has
--- those behind them left
+-- bytes begin with the head of an answer with this status; of a reader whose bytes are known, they
+-- were read, and those behind them are left
 abbrev pub ReadsAnswer : Option (List ℕ) → Option (List ℕ) → Answer → Type 0
 ReadsAnswer old new answer =
     (bytes : List ℕ) × Consumes old new bytes × IsAnswerOf bytes answer

@@ -29,7 +29,7 @@ pub trait Connect {
 }
 
 /// Posts each request over a connection of its own: a failed one is an answer too, as is an answer
-/// that is no HTTP/1.1. Of the answer the head alone is read.
+/// that is no HTTP/1.1. Of the answer the head alone counts.
 #[derive(Drop)]
 pub struct HttpPoster<N> {
     net: N,
@@ -141,7 +141,8 @@ fn seconds_of(value: &[u8]) -> Option<u64> {
     }
 }
 
-/// Reads the head of an answer, which has at most `LONGEST_HEAD` bytes.
+/// Reads an answer up to the end of its head, and what came with that. An error where the reader
+/// fails or ends, and where what came is no head, or one of more than some 16 KiB.
 pub fn read_answer<C: Read>(alloc: Global, connection: &mut C) -> io::Result<Answer>
     ensures { IfOk result
         (ReadsAnswer (C.remaining connection.old) (C.remaining connection.new)) }

@@ -4,7 +4,8 @@ ghost use Rattle.span_timing.specs.Unit.{three_digits, time_text};
 
 use std::alloc::{AllocError, Global};
 
-/// A time with three digits at least, in the greatest unit of which it has one.
+/// A time, cut off, in the greatest unit of which it has one: with three digits at least, but for
+/// those below 100 nanoseconds.
 pub(crate) fn time_text(alloc: Global, time: u64) -> Result<String, AllocError>
     ensures { IfOk result (λ text. string_bytes text ≡ time_text time) }
 {
