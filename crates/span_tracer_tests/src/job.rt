@@ -97,12 +97,15 @@ fn names_and_fields_are_recorded(rt: HostRuntime) -> Result<(), Fail> {
     let (stack, _, _) = run_all(&rt, alloc, stack)?;
     let timeline = stack.outer().observer();
     let (points, table) = (timeline.points(), timeline.table());
+    assert!(&rt; points.len() > 2);
+    assert!(&rt; table.sites.len() > 1);
     let parsed = &table.sites[1];
     assert!(&rt; parsed.name.as_str() == "parsed" && parsed.level == Level::INFO);
     assert!(&rt;
         matches!(points[2].what, Happening::Sent(site, Some(_)) if site == parsed.callsite)
     );
     let fields = points[2].fields_in(table.fields);
+    assert!(&rt; fields.len() == 1);
     assert!(&rt; fields[0].name.as_str() == "number");
     assert!(&rt; fields[0].value == OwnedValue::U64(1));
     Ok(())
