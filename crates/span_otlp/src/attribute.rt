@@ -17,8 +17,8 @@ use span_export::site::Name;
 use span_times::OwnedField;
 use std::alloc::{AllocError, Global};
 
-/// The attributes of an event: what is known of it, unless it was given fields with these names, and
-/// what it was given.
+/// The attributes of an event: what is known of it, unless it was given fields with these names,
+/// and what it was given.
 pub(crate) fn event_attributes(
     alloc: Global,
     name: Name<'_>,
@@ -66,8 +66,8 @@ pub(crate) fn span_attributes(
     Ok(Value::Array(pairs))
 }
 
-/// What is known of a span or an event as attributes, unless fields with these names were given: its
-/// level, its target and its lane.
+/// What is known of a span or an event as attributes, unless fields with these names were given:
+/// its level, its target and its lane.
 fn known(alloc: Global, name: Name<'_>, lane: Lane) -> Result<Vec<Value>, AllocError>
     ensures { IfOk result (λ pairs. map view pairs.items ≡ flat_map
         (own_attribute (named_so name.entry).given) (event_known (named_so name.entry) lane.0)) }

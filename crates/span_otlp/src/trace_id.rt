@@ -30,8 +30,9 @@ impl TraceIds for OneTrace {
     }
 }
 
-/// Each root is in a trace of its own, as far as registries have different seeds: take a random one.
-/// The seed is the upper half of a trace's number, and the root's, spread over 64 bits, the lower.
+/// Each root is in a trace of its own, as far as registries have different seeds: take a random
+/// one. The seed is the upper half of a trace's number, and the root's, spread over 64 bits, the
+/// lower.
 #[derive(Clone, Copy, Debug)]
 pub struct SeededTraces(pub u64);
 

@@ -18,8 +18,8 @@ use std::alloc::{AllocError, Global};
 /// busy and idle, at the 50th, 90th and 99th percent and at most; then how often each event came.
 ///
 /// Callsites stand in the order of `sites`, and are called as these have them, escaped as
-/// `span_fmt::write_escaped` does. Behind them come those that it doesn't have, as `?`. A time up to
-/// which some part lies is up to a sixteenth too great, and what is shown of any time is cut off.
+/// `span_fmt::write_escaped` does. Behind them come those that it doesn't have, as `?`. A time up
+/// to which some part lies is up to a sixteenth too great, and what is shown of any is cut off.
 pub fn timing_text(alloc: Global, timing: &Timing, sites: &[Site]) -> Result<String, AllocError>
     ensures { IfOk result (λ text. string_bytes text ≡ timing_text timing.now sites.now) }
 {
