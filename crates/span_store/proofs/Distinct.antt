@@ -11,8 +11,10 @@ use Rattle.std.specs.Prelude.{Some, if◌then◌else◌}
 use Rattle.span_core.specs.Span.{number_of}
 use Rattle.span_core.specs.declared.span.Id.{Id}
 use Rattle.span_store.specs.LaneStack.{stands, last_entered, leave, leaves_for_good, newest, without_duplicates}
+use Rattle.span_store.specs.private.Index.{times}
 use Rattle.span_store.specs.private.Marks.{numbers_down}
 use Rattle.span_store.proofs.Marks.{flip, leave_apart, leave_split}
+use Rattle.span_store.proofs.Times.{once_above, once_more}
 
 -- without the newest entry of x, the same are distinct, or x is gone where that leaves it for good
 abbrev IsLeft : ℕ → List ℕ → Type 0
@@ -149,3 +151,25 @@ newest_is (x ∷ xs) = by_test (stands x xs) (newest_is xs)
         → newest (if b then without_duplicates xs else (x ∷ without_duplicates xs)) ≡ (if b then last_entered xs else Some x)
     by_test true rest = rest
     by_test false rest = refl
+
+-- of the distinct spans each stands there once
+pub once : (x : ℕ) (xs : List ℕ) → times x (without_duplicates xs) ≤ 1
+once x [] = omega arith
+once x (y ∷ ys) =
+    let us = without_duplicates ys in
+    ⊎_elim
+    (λ (s : stands y ys ≡ true). subst (λ (vs : List ℕ). times x vs ≤ 1) (sym (ap (λ (b : Bool). cond b us (y ∷ us)) s)) (once x ys))
+    (λ (s : stands y ys ≡ false).
+    subst (λ (vs : List ℕ). times x vs ≤ 1) (sym (ap (λ (b : Bool). cond b us (y ∷ us)) s)) (once_more x y us (stands_distinct y ys ∙ s) (once x ys)))
+    (cases_Bool (stands y ys))
+
+-- where one of the distinct spans is x, none after it is
+pub last_once : (xs : List Id) (x i : ℕ) (d : Id)
+    → i < length xs → number_of (get_or xs i d) ≡ x → times x (numbers_down xs) ≤ 1 → stands x (map number_of (drop (i + 1) xs)) ≡ false
+last_once xs x i d h is one =
+    let t = take i xs in
+    let r = get_or xs i d in
+    let above = drop (i + 1) xs in
+    let whole : numbers_down xs ≡ numbers_down above ++ ((number_of r) ∷ numbers_down t) = ap numbers_down (split_at xs i d h) ∙ split_down t above r in
+    sym (stands_down x above)
+    ∙ once_above x (number_of r) (numbers_down above) (numbers_down t) is (subst (λ (us : List ℕ). times x us ≤ 1) whole one)

@@ -23,3 +23,4 @@ mod SlotSteps
 mod Slotting
 mod States
 mod Stored
+mod Times

@@ -2,7 +2,7 @@ use Rattle.std.proofs.Common.{◌≡◌, ℕ, ◌+◌, ◌<◌, ◌≤◌, List,
 use Rattle.std.proofs.Common.{cond, ◌||◌, ◌&&◌, not, nat_eq, ⊎_elim, reverse, take, drop, append_assoc, get_or, add-one}
 use Rattle.std.proofs.Math.Bool.{or-false}
 use Rattle.std.proofs.lemmas.Bool.{cases_Bool, or_parts, or_left, or_right, ne_eqb, eq-eqb, eqb-false, eqb-true}
-use Rattle.std.proofs.lemmas.List.{append-nil, length-append, length-take-le, reverse-append, reverse-reverse, map-append, take-append-drop}
+use Rattle.std.proofs.lemmas.List.{append-nil, length-append, length-take-le, reverse-append, reverse-reverse, map-append, take-append-drop, take_more}
 use Rattle.std.proofs.Math.Seq.{drop-cons, set-append_seam}
 use Rattle.std.proofs.lemmas.List.Folds.{list_any-append}
 use Rattle.std.proofs.lemmas.Grind.{reverse_onto}
@@ -11,6 +11,8 @@ use Rattle.span_store.specs.declared.stack.Entry.{Entry}
 use Rattle.span_store.specs.LaneStack.{stands, leave, leaves_for_good}
 use Rattle.span_store.specs.declared.bloom.Bloom.{Bloom}
 use Rattle.span_store.specs.private.Bloom.{MayHold}
+use Rattle.span_store.specs.private.Index.{times}
+use Rattle.span_store.proofs.Times.{once_above}
 use Rattle.span_store.specs.private.Marks.{ids, ids_down, AreMarkedDown, AreMarked, HoldBelow, HoldsAll, KeepsEntries, IsLastOf}
 
 stands_append : (x : ℕ) (xs ys : List ℕ) → stands x (xs ++ ys) ≡ (stands x xs || stands x ys)
@@ -271,3 +273,29 @@ taken_last es b x i r k h e none =
 -- whether that leaves it for good
 pub for_good : (es : List Entry) (x i : ℕ) (r : Entry) → AreMarked es → IsLastOf es x i → r ≡ get_or es i r → not r.duplicate ≡ leaves_for_good x (ids_down es)
 for_good es x i r m h e = (popped es x i r m h e).for_good
+
+-- an entry of x is the last one, where x has no other
+pub last_alone : (es : List Entry) (x i : ℕ) (d : Entry)
+    → i < length es → number_of (get_or es i d).id ≡ x → times x (ids_down es) ≤ 1 → stands x (ids (drop (i + 1) es)) ≡ false
+last_alone es x i d h is once =
+    let t = take i es in
+    let r = get_or es i d in
+    let above = drop (i + 1) es in
+    let whole : ids_down es ≡ ids (reverse above) ++ ((number_of r.id) ∷ ids (reverse t)) =
+    ap ids_down (split_at es i d h) ∙ ap ids (down_split t above r) ∙ map-append (λ (w : Entry). number_of w.id) (reverse above) (r ∷ reverse t) in
+    let apart = once_above x (number_of r.id) (ids (reverse above)) (ids (reverse t)) is (subst (λ (us : List ℕ). times x us ≤ 1) whole once) in
+    ap (λ (us : List Entry). stands x (ids us)) (sym (reverse-reverse above)) ∙ stands_down x (reverse above) apart
+
+-- ---- what an index is made of
+
+-- the mark of each entry
+pub marked_at : (es : List Entry) (i : ℕ) (d : Entry)
+    → AreMarked es → i < length es → (get_or es i d).duplicate ≡ stands (number_of (get_or es i d).id) (ids_down (take i es))
+marked_at es i d m h =
+    let r = get_or es i d in
+    let above = drop (i + 1) es in
+    mark_at (reverse above) (reverse (take i es)) r (subst AreMarkedDown (down_split (take i es) above r) (subst AreMarked (split_at es i d h) m))
+
+-- one entry more
+pub ids_more : (es : List Entry) (i : ℕ) (d : Entry) → i < length es → ids_down (take (i + 1) es) ≡ number_of (get_or es i d).id ∷ ids_down (take i es)
+ids_more es i d h = ap ids_down (take_more es i d h) ∙ ap ids (pushed_down (take i es) (get_or es i d))

@@ -1,4 +1,5 @@
 pub mod Bloom
+pub mod Index
 pub mod Keyed
 pub mod Marks
 pub mod Slot

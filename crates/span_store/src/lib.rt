@@ -2,6 +2,7 @@
 #![tactic(auto)]
 
 mod bloom;
+mod index;
 mod keyed;
 mod lane;
 mod limits;

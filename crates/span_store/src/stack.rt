@@ -1,16 +1,24 @@
 //! The spans that a lane has entered.
-ghost use Rattle.std.specs.Prelude.{◌≡◌, [], IfErr, IsTrue, OnErr, OnOk, true, vec_capacity};
+ghost use Rattle.std.specs.Prelude.{◌≡◌, ◌<◌, ◌≤◌, [], IfErr, IfSome, IsTrue, OnErr, OnOk, length, slice_index_or, true, vec_capacity};
+ghost use Rattle.std.specs.Bool.{OnTrue};
 ghost use Rattle.std.specs.Iterator.{YieldsFirstBy, item_count};
-ghost use Rattle.std.specs.Option.{option_map};
+ghost use Rattle.std.specs.Option.{is_some, option_map};
 ghost use Rattle.span_core.specs.Span.{number_of};
+ghost use Rattle.span_core.specs.declared.span.Id.{Id};
+ghost use Rattle.span_store.specs.declared.stack.Entry.{Entry};
 ghost use Rattle.span_store.specs.LaneStack.{leave, leaves_for_good, newest, no_entries, spans_to_give, stands, with_entry, with_room, without_duplicates, without_entry};
-ghost use Rattle.span_store.specs.private.Marks.{HoldsAll, IsAtLast, WantsEntry, WantsRoom, ids, numbers_down};
+ghost use Rattle.span_store.specs.private.Index.{Indexes, times};
+ghost use Rattle.span_store.specs.private.Marks.{AreMarked, HoldsAll, IsAtLast, IsAtLastId, IsLastOf, KeepsDistinct, WantsEntry, WantsRoom, ids, ids_down, numbers_down};
 
 use crate::bloom::Bloom;
+use crate::index::Index;
 use crate::room::make_room;
 use span_core::{Id, TraceError};
 use std::alloc::Global;
 use std::marker::Model;
+
+/// With fewer distinct spans a stack gets no index, since a walk takes no longer.
+const DEEP: usize = 80;
 
 #[derive(Clone, Copy)]
 pub(crate) struct Entry {
@@ -29,11 +37,14 @@ struct Entries {
     held: Bloom,
     /// For how many entries there is memory, whether they are there or not.
     room: usize,
+    /// An index of the entries, where their spans are many.
+    index: Index,
 }
 
 impl Model for Entries {
     ghost use Rattle.std.specs.Prelude.{◌≤◌, vec_capacity};
     ghost use Rattle.span_store.specs.LaneStack.{HeldStack};
+    ghost use Rattle.span_store.specs.private.Index.{Indexes};
     ghost use Rattle.span_store.specs.private.Marks.{KeepsEntries, ids_down};
 
     ghost Value = { HeldStack };
@@ -41,7 +52,7 @@ impl Model for Entries {
     ghost view = { λ a. record { spans = ids_down a.entries.items; room = a.room } };
 
     ghost invariant = { λ a. KeepsEntries a.entries.items a.held
-        × (a.room ≤ vec_capacity a.entries) };
+        × (a.room ≤ vec_capacity a.entries) × Indexes a.index (ids_down a.entries.items) };
 }
 
 impl Entries {
@@ -52,6 +63,7 @@ impl Entries {
             entries: Vec::new(alloc),
             held: Bloom::new(),
             room: 0,
+            index: Index::none(),
         }
     }
 
@@ -60,6 +72,23 @@ impl Entries {
         ensures { stands (number_of id) self.now.spans ≡ true → IsTrue result }
     {
         self.held.may_hold(id)
+    }
+
+    /// Makes an index of the entries, of so many distinct spans, where these are many and there is
+    /// memory for it.
+    fn keep_index(&mut self, distinct: usize)
+        ensures { self.new ≡ self.old }
+    {
+        if self.index.is_none() && distinct >= DEEP {
+            self.index = index_of(*self.entries.allocator(), &self.entries);
+        }
+    }
+
+    /// Whether the span stands among the entries, if an index says so.
+    fn indexed(&self, id: Id) -> Option<bool>
+        ensures { IfSome result (λ b. b ≡ stands (number_of id) self.now.spans) }
+    {
+        self.index.holds(id)
     }
 
     /// Holds memory for so many entries, with those that there are.
@@ -78,6 +107,7 @@ impl Entries {
     /// Puts an entry of a span in front, which is a duplicate or isn't.
     ///
     /// Refused for want of memory alone, where there is no room.
+    #[inline(always)]
     fn push(&mut self, id: Id, duplicate: bool) -> Result<(), TraceError>
         requires { duplicate ≡ stands (number_of id) self.old.spans }
         ensures entered { OnOk result (self.new ≡ with_entry (number_of id) self.old) }
@@ -91,24 +121,27 @@ impl Entries {
             before,
         })?;
         self.held.insert(id);
+        self.index.add(id, duplicate);
         Ok(())
     }
 
-    /// Takes out the newest entry of a span. Answers whether that leaves the span for good.
-    fn pop(&mut self, id: Id) -> bool
+    /// Takes out the newest entry of a span. Answers where it stood, if that leaves the span for
+    /// good.
+    fn pop(&mut self, id: Id) -> Option<usize>
         ensures left { self.new ≡ without_entry (number_of id) self.old }
-        ensures for_good { result ≡ leaves_for_good (number_of id) self.old.spans }
+        ensures for_good { is_some result ≡ leaves_for_good (number_of id) self.old.spans }
     {
-        match last_place(&self.entries, self.held, id) {
-            None => false,
+        match last_place(&self.entries, self.held, &self.index, id) {
+            None => None,
             Some(place) => {
                 let entry = self.entries.remove(place);
+                self.index.remove(id, entry.duplicate, place);
                 if place < self.entries.len() {
                     self.entries[place].before = entry.before;
                 } else {
                     self.held = entry.before;
                 }
-                !entry.duplicate
+                (!entry.duplicate).then_some(place)
             }
         }
     }
@@ -171,7 +204,7 @@ impl LaneStack {
         ensures memory { IfErr result (WantsEntry self.old) }
         ensures unchanged { OnErr result (self.new ≡ self.old) }
     {
-        if self.holds(id) {
+        if holds(&mut self.entries, &self.distinct, id) {
             return self.entries.push(id, true);
         }
         self.distinct.reserve(1)?;
@@ -186,11 +219,13 @@ impl LaneStack {
         ensures left { self.new ≡ without_entry (number_of id) self.old }
         ensures for_good { result ≡ leaves_for_good (number_of id) self.old.spans }
     {
-        let for_good = self.entries.pop(id);
-        if for_good {
-            take_out(&mut self.distinct, id);
+        match self.entries.pop(id) {
+            Some(place) => {
+                take_out(&mut self.distinct, id, place);
+                true
+            }
+            None => false,
         }
-        for_good
     }
 
     /// The spans from the newest entry on, duplicates left out.
@@ -206,22 +241,73 @@ impl LaneStack {
     {
         self.iter().next()
     }
+}
 
-    /// Whether the span stands on the stack.
-    fn holds(&self, id: Id) -> bool
-        ensures { result ≡ stands (number_of id) self.now.spans }
-    {
-        self.entries.may_hold(id) && is_among(&self.distinct, id)
+/// Whether the span stands among the entries. These are their distinct spans.
+#[inline(always)]
+fn holds(entries: &mut Entries, distinct: &[Id], id: Id) -> bool
+    requires { KeepsDistinct entries.old.spans distinct.now }
+    ensures kept { entries.new ≡ entries.old }
+    ensures held { result ≡ stands (number_of id) entries.old.spans }
+{
+    if !entries.may_hold(id) {
+        return false;
+    }
+    is_held(entries, distinct, id)
+}
+
+/// Whether the span stands among the entries, found by their index or by a walk.
+#[inline(never)]
+fn is_held(entries: &mut Entries, distinct: &[Id], id: Id) -> bool
+    requires { KeepsDistinct entries.old.spans distinct.now }
+    ensures kept { entries.new ≡ entries.old }
+    ensures held { result ≡ stands (number_of id) entries.old.spans }
+{
+    entries.keep_index(distinct.len());
+    match entries.indexed(id) {
+        Some(stands) => stands,
+        None => is_among(distinct, id),
     }
 }
 
+/// An index of these entries, if there is memory for it.
+fn index_of(alloc: Global, entries: &[Entry]) -> Index
+    requires { AreMarked entries.now }
+    ensures { Indexes result (ids_down entries.now) }
+{
+    let mut index = Index::with_capacity(alloc, entries.len());
+    for entry in entries {
+        index.add(entry.id, entry.duplicate);
+    }
+    index
+}
+
 /// Where the last entry of a span stands. The filter `held` may hold each entry's span.
-fn last_place(entries: &[Entry], held: Bloom, id: Id) -> Option<usize>
-    requires { HoldsAll held (ids entries.now) }
+#[inline(always)]
+fn last_place(entries: &[Entry], held: Bloom, index: &Index, id: Id) -> Option<usize>
+    requires held { HoldsAll held (ids entries.now) }
+    requires indexed { Indexes index.now (ids_down entries.now) }
+    ensures { IsAtLast entries.now (number_of id) result }
+{
+    let top = entries.len().saturating_sub(1);
+    if is_entry_at(entries, top, id) {
+        return Some(top);
+    }
+    searched_place(entries, held, index, id)
+}
+
+/// Where the last entry of a span stands, found by the index or by a walk.
+#[inline(never)]
+fn searched_place(entries: &[Entry], held: Bloom, index: &Index, id: Id) -> Option<usize>
+    requires held { HoldsAll held (ids entries.now) }
+    requires indexed { Indexes index.now (ids_down entries.now) }
     ensures { IsAtLast entries.now (number_of id) result }
 {
     if !held.may_hold(id) {
         return None;
+    }
+    if let Some(place) = sole_place(entries, index, id) {
+        return Some(place);
     }
     for i in (0..entries.len()).rev() {
         if entries[i].id == id {
@@ -231,6 +317,27 @@ fn last_place(entries: &[Entry], held: Bloom, id: Id) -> Option<usize>
     None
 }
 
+/// Where the entry of a span stands, if the index says that it has one alone.
+fn sole_place(entries: &[Entry], index: &Index, id: Id) -> Option<usize>
+    requires { Indexes index.now (ids_down entries.now) }
+    ensures { IfSome result (IsLastOf entries.now (number_of id)) }
+{
+    let place = index.place(id)?;
+    if !is_entry_at(entries, place, id) {
+        return None;
+    }
+    Some(place)
+}
+
+/// Whether an entry of the span stands at this place.
+fn is_entry_at(entries: &[Entry], place: usize, id: Id) -> bool
+    ensures within { OnTrue result (place < length entries.now) }
+    ensures there { OnTrue result ((d : Entry)
+        → number_of (slice_index_or entries.now place d).id ≡ number_of id) }
+{
+    place < entries.len() && entries[place].id == id
+}
+
 /// Whether the span is one of these.
 fn is_among(spans: &[Id], id: Id) -> bool
     ensures { result ≡ stands (number_of id) (numbers_down spans.now) }
@@ -238,18 +345,65 @@ fn is_among(spans: &[Id], id: Id) -> bool
     spans.contains(&id)
 }
 
-/// Takes out the last entry of a span, if it is one of these.
-fn take_out(spans: &mut Vec<Id>, id: Id)
+/// Takes a span out of these, of which none stands twice. It may stand at the place `near`.
+fn take_out(spans: &mut Vec<Id>, id: Id, near: usize)
+    requires { times (number_of id) (numbers_down spans.old.items) ≤ 1 }
     ensures left { numbers_down spans.new.items
         ≡ leave (number_of id) (numbers_down spans.old.items) }
     ensures capacity { vec_capacity spans.new ≡ vec_capacity spans.old }
 {
+    match place_in(spans, id, near) {
+        Some(place) => {
+            spans.remove(place);
+        }
+        None => {}
+    }
+}
+
+/// Where the span stands among these, of which none stands twice: on top, at `near` or elsewhere.
+#[inline(always)]
+fn place_in(spans: &[Id], id: Id, near: usize) -> Option<usize>
+    requires { times (number_of id) (numbers_down spans.now) ≤ 1 }
+    ensures { IsAtLastId spans.now (number_of id) result }
+{
+    let top = spans.len().saturating_sub(1);
+    if is_at(spans, top, id) {
+        return Some(top);
+    }
+    place_near(spans, id, near)
+}
+
+/// Where the span stands among these, of which none stands twice: at `near` or elsewhere.
+#[inline(never)]
+fn place_near(spans: &[Id], id: Id, near: usize) -> Option<usize>
+    requires { times (number_of id) (numbers_down spans.now) ≤ 1 }
+    ensures { IsAtLastId spans.now (number_of id) result }
+{
+    if is_at(spans, near, id) {
+        return Some(near);
+    }
+    walked_place(spans, id)
+}
+
+/// Whether the span stands at this place.
+fn is_at(spans: &[Id], place: usize, id: Id) -> bool
+    ensures within { OnTrue result (place < length spans.now) }
+    ensures there { OnTrue result ((d : Id)
+        → number_of (slice_index_or spans.now place d) ≡ number_of id) }
+{
+    place < spans.len() && spans[place] == id
+}
+
+/// Where the last one of these stands that is the span.
+fn walked_place(spans: &[Id], id: Id) -> Option<usize>
+    ensures { IsAtLastId spans.now (number_of id) result }
+{
     for i in (0..spans.len()).rev() {
         if spans[i] == id {
-            spans.remove(i);
-            return;
+            return Some(i);
         }
     }
+    None
 }
 
 /// The spans on a stack, newest first, duplicates left out.

@@ -61,6 +61,17 @@ abbrev pub IsAtLast : List Entry → ℕ → Option ℕ → Type 0
 IsAtLast es x None = stands x (ids es) ≡ false
 IsAtLast es x (Some i) = IsLastOf es x i
 
+-- the last place of x among these
+pub record IsLastIdOf (xs : List Id) (x i : ℕ) : Type 0 where
+  pub within : i < length xs
+  pub there : (d : Id) → number_of (slice_index_or xs i d) ≡ x
+  pub apart : stands x (map number_of (drop (i + 1) xs)) ≡ false
+
+-- the last place of x, if there is one
+abbrev pub IsAtLastId : List Id → ℕ → Option ℕ → Type 0
+IsAtLastId xs x None = stands x (map number_of xs) ≡ false
+IsAtLastId xs x (Some i) = IsLastIdOf xs x i
+
 -- memory for one more entry is refused, and there is no room for it
 abbrev pub WantsEntry : HeldStack → TraceError → Type 0
 WantsEntry s e = (e ≡ OutOfMemory) × (s.room ≤ length s.spans)

@@ -1,7 +1,10 @@
-use Rattle.std.proofs.Common.{ℕ, ◌∙◌, ap, sym, subst, List, length, slice_set, get_or, ◌≡◌, false, arith}
+use Rattle.std.proofs.Common.{ℕ, ◌∙◌, ap, sym, subst, List, length, slice_set, get_or, ◌≡◌, Bool, true, false, not, refl, arith}
+use Rattle.std.specs.Bool.{then_some}
+use Rattle.std.specs.Option.{is_some}
 use Rattle.span_core.specs.Span.{number_of}
 use Rattle.span_store.specs.declared.stack.Entry.{Entry}
 use Rattle.span_store.specs.LaneStack.{HeldStack, stands, leaves_for_good, without_entry}
+use Rattle.span_store.specs.private.Index.{Indexes}
 use Rattle.span_store.specs.private.Marks.{HoldsAll, ids, IsLastOf, ids_down, KeepsEntries}
 use Rattle.span_store.proofs.Marks.{for_good, none_left, taken_last, taken_within}
 use Rattle.span_store.proofs.stack.Entries.pop.Goals as goal
@@ -11,8 +14,15 @@ use Rattle.span_store.proofs.stack.Entries.pop.Goals.{then-place-len, else-place
 abbrev with_spans : ℕ → List ℕ → HeldStack
 with_spans room xs = record { spans = xs; room = room }
 
-pub last_place-requires : goal.last_place-requires
-last_place-requires c = subst (λ (us : List Entry). HoldsAll c.self.inside.held (ids us)) (sym c.deref.ensures.value) c.self.invariant.0.held
+some_of : (b : Bool) (n : ℕ) → is_some (then_some b n) ≡ b
+some_of true n = refl
+some_of false n = refl
+
+pub last_place-requires-clause-held : goal.last_place-requires-clause-held
+last_place-requires-clause-held c = subst (λ (us : List Entry). HoldsAll c.self.inside.held (ids us)) (sym c.deref.ensures.value) c.self.invariant.0.held
+
+pub last_place-requires-clause-indexed : goal.last_place-requires-clause-indexed
+last_place-requires-clause-indexed c = subst (λ (us : List Entry). Indexes c.self.inside.index (ids_down us)) (sym c.deref.ensures.value) c.self.invariant.2
 
 pub invariant_of-self : goal.invariant_of-self
 invariant_of-self c =
@@ -24,6 +34,10 @@ invariant_of-self c =
     ∙ ap (λ (us : List Entry). get_or us i a) left) (let e = ap length left in let n = c.len.ensures in let b = c.if-place-len.true in omega arith) in (
       subst (λ (us : List Entry). KeepsEntries (slice_set us i (record a { before = c.remove-entry.result.before })) c.self.inside.held) (sym left) t.keeps,
       let room = c.self.invariant.1 in let kept = c.remove-entry.ensures.capacity in omega arith,
+      subst (λ (us : List Entry). Indexes c.remove.new.self (ids_down (slice_set us i (record a { before = c.remove-entry.result.before })))) (sym left)
+          (subst (Indexes c.remove.new.self) (sym t.left)
+          (c.remove.ensures (ids_down c.self.inside.entries.items)
+          (for_good c.self.inside.entries.items _ _ c.remove-entry.result c.self.invariant.0.marked h c.remove-entry.ensures.value) c.self.invariant.2)),
     )
 
 pub invariant_of-self-else-place-len : goal.invariant_of-self-else-place-len
@@ -34,6 +48,10 @@ invariant_of-self-else-place-len c =
     c.self.invariant.0 h c.remove-entry.ensures.value (let e = ap length left in let n = c.len.ensures in let b = c.if-place-len.false in omega arith) in (
       subst (λ (us : List Entry). KeepsEntries us c.remove-entry.result.before) (sym left) t.keeps,
       let room = c.self.invariant.1 in let kept = c.remove-entry.ensures.capacity in omega arith,
+      subst (λ (us : List Entry). Indexes c.remove.new.self (ids_down us)) (sym left)
+          (subst (Indexes c.remove.new.self) (sym t.left)
+          (c.remove.ensures (ids_down c.self.inside.entries.items)
+          (for_good c.self.inside.entries.items _ _ c.remove-entry.result c.self.invariant.0.marked h c.remove-entry.ensures.value) c.self.invariant.2)),
     )
 
 pub returns-in-None-clause-left : goal.returns-in-None-clause-left
@@ -71,5 +89,6 @@ returns-after-place-len-clause-left c =
 pub returns-after-place-len-clause-for_good : goal.returns-after-place-len-clause-for_good
 returns-after-place-len-clause-for_good c =
     let h = subst (λ (es : List Entry). IsLastOf es (number_of c.args.id) c.in-Some.place) c.deref.ensures.value c.in-Some.ensures in
-    for_good _ _ _ c.remove-entry.result c.self.invariant.0.marked h c.remove-entry.ensures.value
+    ap is_some c.then_some.ensures ∙ some_of (not c.remove-entry.result.duplicate) c.in-Some.place
+    ∙ for_good _ _ _ c.remove-entry.result c.self.invariant.0.marked h c.remove-entry.ensures.value
     ∙ ap (λ (s : HeldStack). leaves_for_good (number_of c.args.id) s.spans) c.self.view_is
