@@ -271,6 +271,8 @@ fn is_held(entries: &mut Entries, distinct: &[Id], id: Id) -> bool
 }
 
 /// An index of these entries, if there is memory for it.
+// (compiled by itself: a function clears the room of its locals at entry, and this one has many)
+#[inline(never)]
 fn index_of(alloc: Global, entries: &[Entry]) -> Index
     requires { AreMarked entries.now }
     ensures { Indexes result (ids_down entries.now) }
