@@ -121,7 +121,7 @@ tells_quoted text rest =
 
 -- ---- names, numbers and floats
 
-has_none : (xs ys : List ℕ) → has_quote xs ≡ false → has_quote ys ≡ false → has_quote (xs ++ ys) ≡ false
+pub has_none : (xs ys : List ℕ) → has_quote xs ≡ false → has_quote ys ≡ false → has_quote (xs ++ ys) ≡ false
 has_none xs ys p q = list_any-append (λ b. b == 34) xs ys ∙ ap (λ (t : Bool). t || has_quote ys) p ∙ q
 
 skips_none : (xs : List ℕ) → list_all (λ b. not (b == 34)) xs ≡ true → has_quote xs ≡ false
@@ -272,7 +272,7 @@ begun_bare lane level =
     has_none (decimal lane ++ codes " " ++ level_text level) (codes " ")
     (has_none (decimal lane ++ codes " ") (level_text level) (has_none (decimal lane) (codes " ") (decimal_bare lane) refl) (level_bare level)) refl
 
-tells_rest : (m : Metadata) (values : List (Bor (List ℕ) × FieldValue)) → IsBareSite m → AreBare values → Tells (rest_text m values) (texts_in values)
+pub tells_rest : (m : Metadata) (values : List (Bor (List ℕ) × FieldValue)) → IsBareSite m → AreBare values → Tells (rest_text m values) (texts_in values)
 tells_rest m values site fields =
     let target = escaped (target_of m) in
     let name = escaped (name_of m) in

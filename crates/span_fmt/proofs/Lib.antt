@@ -10,6 +10,7 @@ mod Scopes
 mod Plain
 mod Present
 mod Told
+mod TreeBetween
 mod Differ
 mod Runs
 mod Unescaped

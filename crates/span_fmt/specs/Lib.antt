@@ -14,3 +14,4 @@ pub mod Streamed
 pub mod Text
 pub mod Told
 pub mod Tree
+pub mod TreeBetween

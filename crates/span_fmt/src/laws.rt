@@ -5,6 +5,7 @@ ghost use Rattle.span_fmt.specs.FormsTold.{LinesFormsGiveEvents, TreeFormsGiveAl
 ghost use Rattle.span_fmt.specs.Quote.{QuotedTextsEnd};
 ghost use Rattle.span_fmt.specs.Streamed.{StreamsWriteAll};
 ghost use Rattle.span_fmt.specs.Told.{KnowsWhatWasGiven, LinesWriteEvents, TreesWriteAll};
+ghost use Rattle.span_fmt.specs.TreeBetween.{TreesTellTheirTexts};
 
 use crate::form::Form;
 use span_registry::Subscriber;
@@ -44,6 +45,13 @@ pub fn a_quoted_text_ends_at_its_quote()
 /// Names and floats' texts, which are the program's own, are to have no quotes.
 pub fn lines_tell_their_texts()
     ensures { LinesTellTheirTexts }
+{}
+
+/// What a line of `Tree` has between its quotes are the texts that it tells, in order, whatever
+/// they say. So of lines that are the same the texts are. Names and floats' texts, which are the
+/// program's own, are to have no quotes.
+pub fn trees_tell_their_texts()
+    ensures { TreesTellTheirTexts }
 {}
 
 /// A stream hands its writer a piece of each line that its form gives, in order, wherever it stands
