@@ -24,6 +24,7 @@ use Rattle.span_registry.specs.declared.context.ContextMut.{ContextMut}
 use Rattle.span_registry.specs.declared.scope.Scope.{Scope}
 use Rattle.span_fmt.proofs.Scopes.{lent}
 use Rattle.span_fmt.specs.Known.{SpanTexts}
+use Rattle.span_fmt.specs.Lane.{Naming}
 use Rattle.span_fmt.specs.Lines.{around_text, begun_text, event_line, label_text, reference_label, seen_label, spaced}
 use Rattle.span_fmt.specs.Text.{rest_text}
 use Rattle.span_fmt.specs.Tree.{given, spans_round}
@@ -48,13 +49,13 @@ label_seen s lane mask known x =
 
 -- ---- references stand for their spans
 
-reverse-map : {A B : Type 0} (f : A → B) (xs : List A) → reverse (map f xs) ≡ map f (reverse xs)
+pub reverse-map : {A B : Type 0} (f : A → B) (xs : List A) → reverse (map f xs) ≡ map f (reverse xs)
 reverse-map f [] = refl
 reverse-map f (x ∷ xs) =
     reverse-append (f x ∷ []) (map f xs)
     ∙ ap (λ t. t ++ (f x ∷ [])) (reverse-map f xs) ∙ sym (map-append f (reverse xs) (x ∷ [])) ∙ ap (map f) (sym (reverse-append (x ∷ []) xs))
 
-flat_map-map : {A B : Type 0} (f : A → B) (g : B → List ℕ) (xs : List A) → flat_map g (map f xs) ≡ flat_map (λ x. g (f x)) xs
+pub flat_map-map : {A B : Type 0} (f : A → B) (g : B → List ℕ) (xs : List A) → flat_map g (map f xs) ≡ flat_map (λ x. g (f x)) xs
 flat_map-map f g [] = refl
 flat_map-map f g (x ∷ xs) = ap (λ (t : List ℕ). g (f x) ++ t) (flat_map-map f g xs)
 
@@ -73,19 +74,20 @@ around_found {S} registry c look e found known l h =
 
 -- ---- what is written of an event is its line
 
-pub line_written : (e : Event) (v : View)
+pub line_written : (names : Naming) (e : Event) (v : View)
     (known : SpanTexts) (lane : ℕ) (level : Level) (m : Metadata) (values : List (Bor (List ℕ) × FieldValue)) (begun mid new around : List ℕ)
-    → begun ≡ begun_text lane level → mid ≡ begun ++ spaced around → new ≡ mid ++ rest_text m values
+    → begun ≡ begun_text names lane level → mid ≡ begun ++ spaced around → new ≡ mid ++ rest_text m values
     → lane ≡ v.lane
-    → level ≡ level_of (event_metadata e) → around ≡ around_text e v known → m ≡ event_metadata e → values ≡ event_values e → new ≡ event_line e v known
-line_written e v known lane level m values begun mid new around first second third lane_is level_is around_is m_is values_is =
+    → level ≡ level_of (event_metadata e) → around ≡ around_text e v known → m ≡ event_metadata e → values ≡ event_values e
+    → new ≡ event_line names e v known
+line_written names e v known lane level m values begun mid new around first second third lane_is level_is around_is m_is values_is =
     third ∙ ap (λ (t : List ℕ). t ++ rest_text m values) (second ∙ ap (λ (t : List ℕ). t ++ spaced around) first)
-    ∙ (λ i. begun_text (lane_is i) (level_is i) ++ spaced (around_is i) ++ rest_text (m_is i) (values_is i))
+    ∙ (λ i. begun_text names (lane_is i) (level_is i) ++ spaced (around_is i) ++ rest_text (m_is i) (values_is i))
 
 -- ---- extensions make no difference
 
 module _ (s : Store) (lane : ℕ) (mask : FilterSet) (law : ShowsPlainly s lane mask) where
-  round_plainly : (e : Event) → spans_round e (view_of s lane mask) ≡ spans_round e (plain_view s lane mask)
+  pub round_plainly : (e : Event) → spans_round e (view_of s lane mask) ≡ spans_round e (plain_view s lane mask)
   round_plainly e = ap (scope (view_of s lane mask).spans) (law.event (event_parent e)) ∙ law.scope (event_shown (event_parent e) (plain_view s lane mask))
 
   label_plainly : (known : SpanTexts) (x : ℕ) → seen_label (view_of s lane mask) known x ≡ seen_label (plain_view s lane mask) known x
@@ -94,7 +96,8 @@ module _ (s : Store) (lane : ℕ) (mask : FilterSet) (law : ShowsPlainly s lane 
   around_plainly : (e : Event) (known : SpanTexts) → around_text e (view_of s lane mask) known ≡ around_text e (plain_view s lane mask) known
   around_plainly e known = λ i. flat_map (λ x. label_plainly known x i) (reverse (round_plainly e i))
 
-  pub event_plainly : (e : Event) (known : SpanTexts) → event_line e (view_of s lane mask) known ≡ event_line e (plain_view s lane mask) known
-  event_plainly e known =
-      ap (λ (around : List ℕ). begun_text lane (level_of (event_metadata e)) ++ spaced around ++ rest_text (event_metadata e) (event_values e))
+  pub event_plainly : (names : Naming) (e : Event) (known : SpanTexts)
+      → event_line names e (view_of s lane mask) known ≡ event_line names e (plain_view s lane mask) known
+  event_plainly names e known =
+      ap (λ (around : List ℕ). begun_text names lane (level_of (event_metadata e)) ++ spaced around ++ rest_text (event_metadata e) (event_values e))
       (around_plainly e known)

@@ -30,6 +30,7 @@ use Rattle.span_registry.specs.View.{View}
 use Rattle.span_fmt.specs.Between.{AreBare, Guarded, Inside, IsBare, IsBareEvent, IsBareFloat, IsBareSite, LinesTellTheirTexts, Outside, Place, SpanValues}
 use Rattle.span_fmt.specs.Between.{between, line_of, quoted_one_by_one, text_in, texts_in, texts_told}
 use Rattle.span_fmt.specs.Escape.{escape, escaped, is_escaped}
+use Rattle.span_fmt.specs.Lane.{Naming, lane_text, name_or_number, name_told}
 use Rattle.span_fmt.specs.Lines.{around_text, bare, begun_text, braced, label_text, seen_label, spaced}
 use Rattle.span_fmt.specs.Quote.{behind_quote, inside_quotes, quote_inside, quoted}
 use Rattle.span_fmt.specs.Text.{field_text, fields_text, rest_text, shown_text}
@@ -267,10 +268,20 @@ tells_label name values told e h =
     tells_then (escaped name ++ braced values) (codes ":") told
     (tells_more (escaped name) (braced values) told (name_bare name e) (tells_braced values told h)) refl
 
-begun_bare : (lane : ℕ) (level : Level) → has_quote (begun_text lane level) ≡ false
-begun_bare lane level =
-    has_none (decimal lane ++ codes " " ++ level_text level) (codes " ")
-    (has_none (decimal lane ++ codes " ") (level_text level) (has_none (decimal lane) (codes " ") (decimal_bare lane) refl) (level_bare level)) refl
+-- a lane tells its name, if it has one
+pub tells_name : (name : List ℕ) (lane : ℕ) → Tells (name_or_number name lane) (name_told name)
+tells_name [] lane = tells_bare (decimal lane) (decimal_bare lane)
+tells_name (b ∷ bytes) lane = tells_quoted (b ∷ bytes)
+
+pub tells_lane : (names : Naming) (lane : ℕ) → Tells (lane_text names lane) (name_told (names lane))
+tells_lane names lane = tells_name (names lane) lane
+
+tells_begun : (names : Naming) (lane : ℕ) (level : Level) → Tells (begun_text names lane level) (name_told (names lane))
+tells_begun names lane level =
+    let start = lane_text names lane in
+    let told = name_told (names lane) in
+    tells_then (start ++ codes " " ++ level_text level) (codes " ") told
+    (tells_then (start ++ codes " ") (level_text level) told (tells_then start (codes " ") told (tells_lane names lane) refl) (level_bare level)) refl
 
 pub tells_rest : (m : Metadata) (values : List (Bor (List ℕ) × FieldValue)) → IsBareSite m → AreBare values → Tells (rest_text m values) (texts_in values)
 tells_rest m values site fields =
@@ -289,13 +300,16 @@ tells_around e v given is =
     (tells_fields (given x) (is.values x)))
     (reverse (spans_round e v))
 
-tells_line : (e : Event) (v : View) (given : SpanValues) → IsBareEvent e v given → Tells (line_of e v given) (texts_told e v given)
-tells_line e v given is =
+tells_line : (names : Naming) (e : Event) (v : View) (given : SpanValues) → IsBareEvent e v given
+    → Tells (line_of names e v given) (texts_told names e v given)
+tells_line names e v given is =
     let told = flat_map (λ (x : ℕ). texts_in (given x)) (reverse (spans_round e v)) in
-    let begun = begun_text v.lane (level_of (event_metadata e)) in
+    let name = name_told (names v.lane) in
+    let begun = begun_text names v.lane (level_of (event_metadata e)) in
     let around = around_text e v (λ (x : ℕ). fields_text (given x)) in
-    tells_both (begun ++ spaced around) (rest_text (event_metadata e) (event_values e)) told (texts_in (event_values e))
-    (tells_more begun (spaced around) told (begun_bare v.lane (level_of (event_metadata e))) (tells_spaced around told (tells_around e v given is)))
+    tells_both (begun ++ spaced around) (rest_text (event_metadata e) (event_values e)) (name ++ told) (texts_in (event_values e))
+    (tells_both begun (spaced around) name told
+    (tells_begun names v.lane (level_of (event_metadata e))) (tells_spaced around told (tells_around e v given is)))
     (tells_rest (event_metadata e) (event_values e) is.site is.fields)
 
 -- what a text tells is what stands between its quotes
@@ -383,8 +397,8 @@ same_texts (t ∷ texts) (o ∷ others) u v e =
 
 pub lines_tell : LinesTellTheirTexts
 lines_tell = record {
-  told = λ e v given is. told_between (line_of e v given) (texts_told e v given) (tells_line e v given is);
-  same = λ e f v w given others is are u x same. same_texts (texts_told e v given) (texts_told f w others) u x
-      (sym (told_between (line_of e v given) (texts_told e v given) (tells_line e v given is)) ∙ ap (between Outside) same
-      ∙ told_between (line_of f w others) (texts_told f w others) (tells_line f w others are));
+  told = λ names e v given is. told_between (line_of names e v given) (texts_told names e v given) (tells_line names e v given is);
+  same = λ names other e f v w given others is are u x same. same_texts (texts_told names e v given) (texts_told other f w others) u x
+      (sym (told_between (line_of names e v given) (texts_told names e v given) (tells_line names e v given is)) ∙ ap (between Outside) same
+      ∙ told_between (line_of other f w others) (texts_told other f w others) (tells_line other f w others are));
 }

@@ -4,7 +4,7 @@ use Rattle.std.specs.Borrow.{Bor}
 use Rattle.std.specs.FinMap.{len}
 use Rattle.std.specs.List.{filter}
 use Rattle.std.specs.Option.{option_copied}
-use Rattle.std.specs.Prelude.{codes, decimal}
+use Rattle.std.specs.Prelude.{codes}
 use Rattle.span_store.specs.Store.{RegistryState, Store}
 use Rattle.span_registry.proofs.CallerLemmas.{view_lent_on}
 use Rattle.span_registry.specs.Context.{GivesScope, LooksAtLent, filters_in, store_at, subscriber_in, subscriber_lent, view_in, view_lent}
@@ -13,6 +13,7 @@ use Rattle.span_registry.specs.View.{SeenSpans, View, ancestry, is_shown, scope,
 use Rattle.span_registry.specs.declared.context.Context.{Context}
 use Rattle.span_registry.specs.declared.context.ContextMut.{ContextMut}
 use Rattle.span_registry.specs.declared.scope.Scope.{Scope}
+use Rattle.span_fmt.specs.Lane.{Naming, lane_text}
 use Rattle.span_fmt.specs.Text.{head_text, indent}
 use Rattle.span_fmt.specs.Tree.{given}
 
@@ -55,27 +56,29 @@ indent-map : {A B : Type 0} (f : A → B) (xs : List A) → indent (map f xs) �
 indent-map f [] = refl
 indent-map f (x ∷ xs) = ap (λ (t : List ℕ). codes "  " ++ t) (indent-map f xs)
 
-drop-map : {A B : Type 0} (f : A → B) (xs : List A) → drop 1 (map f xs) ≡ map f (drop 1 xs)
+pub drop-map : {A B : Type 0} (f : A → B) (xs : List A) → drop 1 (map f xs) ≡ map f (drop 1 xs)
 drop-map f [] = refl
 drop-map f (x ∷ xs) = refl
 
-head-map : {A B : Type 0} (lane : ℕ) (f : A → B) (xs : List A) → head_text lane (map f xs) ≡ head_text lane xs
-head-map lane f xs = ap (λ (t : List ℕ). decimal lane ++ codes " " ++ t) (indent-map f xs)
+head-map : {A B : Type 0} (names : Naming) (lane : ℕ) (f : A → B) (xs : List A) → head_text names lane (map f xs) ≡ head_text names lane xs
+head-map names lane f xs = ap (λ (t : List ℕ). lane_text names lane ++ codes " " ++ t) (indent-map f xs)
 
 -- a line that is indented by the scope found
 pub head_round : {S : Type 0} (registry : S → RegistryState) (c : ContextMut S)
-    (look : Context S) (which : View → Option ℕ) (found : Option (Scope S)) (lane : ℕ) → LooksAtLent c look → GivesScope registry look which found
-    → head_text lane (given registry found) ≡ head_text lane (scope (view_lent registry c).spans (which (view_lent registry c)))
-head_round registry c look which found lane l h =
+    (look : Context S) (which : View → Option ℕ) (found : Option (Scope S)) (names : Naming) (lane : ℕ)
+    → LooksAtLent c look → GivesScope registry look which found
+    → head_text names lane (given registry found) ≡ head_text names lane (scope (view_lent registry c).spans (which (view_lent registry c)))
+head_round registry c look which found names lane l h =
     let f = reference_to registry (subscriber_lent c) (filters_in look) in
-    ap (head_text lane) (lent registry c look which found l h) ∙ head-map lane f (scope (view_lent registry c).spans (which (view_lent registry c)))
+    ap (head_text names lane) (lent registry c look which found l h) ∙ head-map names lane f (scope (view_lent registry c).spans (which (view_lent registry c)))
 
 -- a line that is indented by what is above the first of it
 pub head_above : {S : Type 0} (registry : S → RegistryState) (c : ContextMut S)
-    (look : Context S) (which : View → Option ℕ) (found : Option (Scope S)) (lane : ℕ) → LooksAtLent c look → GivesScope registry look which found
-    → head_text lane (drop 1 (given registry found)) ≡ head_text lane (drop 1 (scope (view_lent registry c).spans (which (view_lent registry c))))
-head_above {S} registry c look which found lane l h =
+    (look : Context S) (which : View → Option ℕ) (found : Option (Scope S)) (names : Naming) (lane : ℕ)
+    → LooksAtLent c look → GivesScope registry look which found
+    → head_text names lane (drop 1 (given registry found)) ≡ head_text names lane (drop 1 (scope (view_lent registry c).spans (which (view_lent registry c))))
+head_above {S} registry c look which found names lane l h =
     let f = reference_to registry (subscriber_lent c) (filters_in look) in
     let spans = scope (view_lent registry c).spans (which (view_lent registry c)) in
-    ap (λ (xs : List (Reference S)). head_text lane (drop 1 xs)) (lent registry c look which found l h)
-    ∙ ap (head_text lane) (drop-map f spans) ∙ head-map lane f (drop 1 spans)
+    ap (λ (xs : List (Reference S)). head_text names lane (drop 1 xs)) (lent registry c look which found l h)
+    ∙ ap (head_text names lane) (drop-map f spans) ∙ head-map names lane f (drop 1 spans)

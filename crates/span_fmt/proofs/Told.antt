@@ -7,6 +7,7 @@ use Rattle.span_layers.specs.declared.observe.Observer.{Observer}
 use Rattle.span_registry.specs.Position.{Heard, Told}
 use Rattle.span_registry.specs.View.{View}
 use Rattle.span_fmt.specs.Known.{SpanTexts, known_after}
+use Rattle.span_fmt.specs.Lane.{Naming}
 use Rattle.span_fmt.specs.Lines as lines
 use Rattle.span_fmt.specs.Lines.{TakesNotice, lines_steps, notice_line}
 use Rattle.span_fmt.specs.Page.{Writes}
@@ -84,27 +85,38 @@ in_front line more old new first = ap (λ (t : List ℕ). t ++ more) first ∙ a
 -- ---- trees
 
 abbrev tree_due : Tree → Heard → List ℕ
-tree_due x heard = heard_text heard
+tree_due x heard = heard_text (tree.names_of x) heard
 
 tree_one : (told : Told) (heard : Heard) (x y : Observer Tree) (a : TreeHears x (told ∷ heard) y)
     → Goes tree_steps tree.text_of tree.has_failed tree_due told (observer_of x) (observer_of a.0)
 tree_one told heard x y a =
-    let w = subst (λ (v : View). Writes (notice_text told.notice v) (observer_of x).page (observer_of a.0).page) (sym a.1.shown) a.1.step.1.0 in
+    let names = tree.names_of (observer_of x) in
+    let w = subst (λ (v : View). Writes (notice_text names told.notice v) (observer_of x).page (observer_of a.0).page) (sym a.1.shown) a.1.step.1.0 in
     record {
       before = λ sound. (w.whole sound).0;
-      more = λ sound more.
-          in_front (notice_text told.notice told.view) (heard_text more) (tree.text_of (observer_of x)) (tree.text_of (observer_of a.0)) (w.whole sound).1;
+      more = λ sound more. ap (λ (n : Naming). tree.text_of (observer_of a.0) ++ heard_text n more) a.1.step.1.1
+          ∙ in_front (notice_text names told.notice told.view) (heard_text names more)
+          (tree.text_of (observer_of x)) (tree.text_of (observer_of a.0)) (w.whole sound).1;
       same = w.cut;
     }
 
+tree_text : (x y : Observer Tree) (heard : Heard)
+    → TreeHears x heard y → WritesText tree.text_of tree.has_failed (tree_due (observer_of x)) heard (observer_of x) (observer_of y)
+tree_text = text_written tree_steps tree.text_of tree.has_failed tree_due (λ x. refl) tree_one
+
+-- lanes keep their names
+tree_named : (x y : Observer Tree) (heard : Heard) → TreeHears x heard y → tree.names_of (observer_of y) ≡ tree.names_of (observer_of x)
+tree_named x y [] a = ap (λ (z : Observer Tree). tree.names_of (observer_of z)) (sym a)
+tree_named x y (told ∷ heard) a = tree_named a.0 y heard a.2 ∙ a.1.step.1.1
+
 -- all that a tree is told is written
 pub tree_written : (x y : Observer Tree) (heard : Heard) → TreeHears x heard y → WritesAll heard (observer_of x) (observer_of y)
-tree_written = text_written tree_steps tree.text_of tree.has_failed tree_due (λ x. refl) tree_one
+tree_written x y heard a = record { text = tree_text x y heard a; names = tree_named x y heard a }
 
 -- ---- lines
 
 abbrev lines_due : Lines → Heard → List ℕ
-lines_due x heard = heard_lines (lines.known_of x) heard
+lines_due x heard = heard_lines (lines.names_of x) (lines.known_of x) heard
 
 -- lines that are told of something go on by their step
 noticed : (told : Told) (heard : Heard) (x y : Observer Lines) (a : LinesHear x (told ∷ heard) y)
@@ -116,11 +128,12 @@ lines_one : (told : Told) (heard : Heard) (x y : Observer Lines) (a : LinesHear 
 lines_one told heard x y a =
     let w = noticed told heard x y a in
     let known = lines.known_of (observer_of x) in
+    let names = lines.names_of (observer_of x) in
     record {
       before = w.before;
-      more = λ sound more. ap (λ (k : SpanTexts). lines.text_of (observer_of a.0) ++ heard_lines k more) (w.known sound)
-          ∙ in_front (notice_line told.notice told.view known)
-          (heard_lines (known_after told.notice known) more) (lines.text_of (observer_of x)) (lines.text_of (observer_of a.0)) (w.line sound);
+      more = λ sound more. (λ i. lines.text_of (observer_of a.0) ++ heard_lines (w.names i) (w.known sound i) more)
+          ∙ in_front (notice_line names told.notice told.view known)
+          (heard_lines names (known_after told.notice known) more) (lines.text_of (observer_of x)) (lines.text_of (observer_of a.0)) (w.line sound);
       same = w.same;
     }
 
@@ -136,6 +149,11 @@ all_known x y (told ∷ heard) a sound =
     let w = noticed told heard x y a in
     all_known a.0 y heard a.2 sound ∙ ap (known_by heard) (w.known ((lines_text a.0 y heard a.2).whole sound).0)
 
+-- lanes keep their names
+lines_named : (x y : Observer Lines) (heard : Heard) → LinesHear x heard y → lines.names_of (observer_of y) ≡ lines.names_of (observer_of x)
+lines_named x y [] a = ap (λ (z : Observer Lines). lines.names_of (observer_of z)) (sym a)
+lines_named x y (told ∷ heard) a = lines_named a.0 y heard a.2 ∙ (noticed told heard x y a).names
+
 -- all that lines are told is written
 pub lines_written : (x y : Observer Lines) (heard : Heard) → LinesHear x heard y → WritesLines heard (observer_of x) (observer_of y)
-lines_written x y heard a = record { text = lines_text x y heard a; known = all_known x y heard a }
+lines_written x y heard a = record { text = lines_text x y heard a; known = all_known x y heard a; names = lines_named x y heard a }

@@ -12,6 +12,7 @@ use Rattle.span_core.specs.declared.event.Event.{Event}
 use Rattle.span_core.specs.declared.field.FieldValue.{FieldValue}
 use Rattle.span_core.specs.declared.field.FieldValue.TheVariants as value
 use Rattle.span_core.specs.declared.metadata.Metadata.{Metadata}
+use Rattle.span_fmt.specs.Lane.{Naming, name_told}
 use Rattle.span_fmt.specs.Lines.{event_line}
 use Rattle.span_fmt.specs.Quote.{inside_quotes}
 use Rattle.span_fmt.specs.Text.{fields_text}
@@ -58,11 +59,12 @@ texts_in values = flat_map (λ f. text_in f.1) (present values)
 abbrev pub SpanValues : Type 0
 SpanValues = ℕ → List (Bor (List ℕ) × FieldValue)
 
--- the texts that a line of `Lines` tells: those of the spans round its event from the root on, and
--- those of the event
-abbrev pub texts_told : Event → View → SpanValues → List (List ℕ)
-texts_told e v given =
-    flat_map (λ x. texts_in (given x)) (reverse (spans_round e v)) ++ texts_in (event_values e)
+-- the texts that a line of `Lines` tells: the name of its lane, if it has one, those of the spans
+-- round its event from the root on, and those of the event
+abbrev pub texts_told : Naming → Event → View → SpanValues → List (List ℕ)
+texts_told names e v given =
+    name_told (names v.lane) ++ flat_map (λ x. texts_in (given x)) (reverse (spans_round e v))
+    ++ texts_in (event_values e)
 
 -- a name has no quote
 abbrev pub IsBare : List ℕ → Type 0
@@ -90,15 +92,17 @@ pub record IsBareEvent (e : Event) (v : View) (given : SpanValues) : Type 0 wher
   pub values : (x : ℕ) → AreBare (given x)
 
 -- the line of `Lines` for an event, where spans were given these values
-abbrev pub line_of : Event → View → SpanValues → List ℕ
-line_of e v given = event_line e v (λ x. fields_text (given x))
+abbrev pub line_of : Naming → Event → View → SpanValues → List ℕ
+line_of names e v given = event_line names e v (λ x. fields_text (given x))
 
 -- between the quotes of a line stand the texts that it tells, in order, and nothing else; so two
 -- lines that are the same tell the same texts
 pub record LinesTellTheirTexts : Type 0 where
-  pub told : (e : Event) (v : View) (given : SpanValues) → IsBareEvent e v given
-      → between Outside (line_of e v given) ≡ quoted_one_by_one (texts_told e v given)
-  pub same : (e f : Event) (v w : View) (given others : SpanValues)
+  pub told : (names : Naming) (e : Event) (v : View) (given : SpanValues) → IsBareEvent e v given
+      → between Outside (line_of names e v given) ≡ quoted_one_by_one (texts_told names e v given)
+  pub same : (names other : Naming) (e f : Event) (v w : View) (given others : SpanValues)
       → IsBareEvent e v given → IsBareEvent f w others
-      → AllByRecursion IsUtf8 (texts_told e v given) → AllByRecursion IsUtf8 (texts_told f w others)
-      → line_of e v given ≡ line_of f w others → texts_told e v given ≡ texts_told f w others
+      → AllByRecursion IsUtf8 (texts_told names e v given)
+      → AllByRecursion IsUtf8 (texts_told other f w others)
+      → line_of names e v given ≡ line_of other f w others
+      → texts_told names e v given ≡ texts_told other f w others

@@ -4,6 +4,7 @@ pub mod Form
 pub mod Forms
 pub mod FormsTold
 pub mod Known
+pub mod Lane
 pub mod Lines
 pub mod Outlet
 pub mod Page

@@ -1,6 +1,6 @@
 -- What `Lines` writes: a line for each event, a function of it, of what the layer's own context
--- shows, and of the values that spans were given.
-use Rattle.std.specs.Prelude.{◌≡◌, ◌==◌, if◌then◌else◌, ℕ, Bool, true, false, List, [], ◌∷◌, ◌++◌, codes, decimal, flat_map, reverse}
+-- shows, of the values that spans were given, and of the names of lanes.
+use Rattle.std.specs.Prelude.{◌≡◌, ◌==◌, if◌then◌else◌, ℕ, Bool, true, false, List, [], ◌∷◌, ◌++◌, codes, flat_map, reverse}
 use Rattle.std.specs.FinMap.{get}
 use Rattle.std.specs.Option.{option_map_or}
 use Rattle.span_core.specs.Event.{event_metadata, event_values}
@@ -14,6 +14,7 @@ use Rattle.span_registry.specs.Behaviour.{Notice, OnEvent}
 use Rattle.span_registry.specs.References.{Reference}
 use Rattle.span_registry.specs.View.{View, plain_view}
 use Rattle.span_fmt.specs.Known.{SpanTexts, added_text, known_after, known_in, known_still}
+use Rattle.span_fmt.specs.Lane.{Naming, lane_text, names_in}
 use Rattle.span_fmt.specs.Page.{is_cut, written}
 use Rattle.span_fmt.specs.Text.{rest_text}
 use Rattle.span_fmt.specs.Tree.{spans_round}
@@ -52,20 +53,21 @@ seen_label v known x =
 abbrev pub around_text : Event → View → SpanTexts → List ℕ
 around_text e v known = flat_map (seen_label v known) (reverse (spans_round e v))
 
--- how a line begins: with its lane and level
-abbrev pub begun_text : ℕ → Level → List ℕ
-begun_text lane level = decimal lane ++ codes " " ++ level_text level ++ codes " "
+-- how a line begins: with its lane, by its name if it has one, and its level
+abbrev pub begun_text : Naming → ℕ → Level → List ℕ
+begun_text names lane level =
+    lane_text names lane ++ codes " " ++ level_text level ++ codes " "
 
 -- the line of an event: its lane and level, the spans round it, and the rest
-abbrev pub event_line : Event → View → SpanTexts → List ℕ
-event_line e v known =
-    begun_text v.lane (level_of (event_metadata e)) ++ spaced (around_text e v known)
+abbrev pub event_line : Naming → Event → View → SpanTexts → List ℕ
+event_line names e v known =
+    begun_text names v.lane (level_of (event_metadata e)) ++ spaced (around_text e v known)
     ++ rest_text (event_metadata e) (event_values e)
 
 -- what is written of a notice: the line of an event, and nothing of any other
-abbrev pub notice_line : Notice → View → SpanTexts → List ℕ
-notice_line (OnEvent e) v known = event_line e v known
-notice_line other v known = []
+abbrev pub notice_line : Naming → Notice → View → SpanTexts → List ℕ
+notice_line names (OnEvent e) v known = event_line names e v known
+notice_line names other v known = []
 
 -- what a `Lines` has written
 abbrev pub text_of : Lines → List ℕ
@@ -79,16 +81,23 @@ has_failed x = is_cut x.page
 abbrev pub known_of : Lines → SpanTexts
 known_of x = known_in x.known
 
+-- the names that a `Lines` has of lanes
+abbrev pub names_of : Lines → Naming
+names_of x = names_in x.names
+
 -- A `Lines` is notified: it writes the line of an event, and knows the values that a span is given.
 -- Where memory is refused, or was before, it writes nothing and learns nothing; it doesn't fail
 -- where there is neither a line nor a value.
 pub record TakesNotice (e : Notice) (v : View) (x y : Lines) : Type 0 where
   pub before : has_failed y ≡ false → has_failed x ≡ false
-  pub line : has_failed y ≡ false → text_of y ≡ text_of x ++ notice_line e v (known_of x)
+  pub line : has_failed y ≡ false
+      → text_of y ≡ text_of x ++ notice_line (names_of x) e v (known_of x)
   pub known : has_failed y ≡ false → known_of y ≡ known_after e (known_of x)
   pub same : has_failed y ≡ true → text_of y ≡ text_of x
   pub still : has_failed y ≡ true → known_of y ≡ known_still e (known_of x)
-  pub free : notice_line e v (known_of x) ≡ [] → added_text e ≡ [] → has_failed y ≡ has_failed x
+  pub free : notice_line (names_of x) e v (known_of x) ≡ [] → added_text e ≡ []
+      → has_failed y ≡ has_failed x
+  pub names : names_of y ≡ names_of x
 
 -- a `Lines` goes on by what its context shows, extensions aside, and leaves the registry unchanged
 abbrev pub lines_steps : ObserverSteps Lines

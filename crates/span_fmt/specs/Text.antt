@@ -1,5 +1,5 @@
 -- The text of fields, and of a line.
-use Rattle.std.specs.Prelude.{◌≡◌, ℕ, List, ◌++◌, String, codes, decimal, flat_map, string_bytes}
+use Rattle.std.specs.Prelude.{◌≡◌, ℕ, List, ◌++◌, String, codes, flat_map, string_bytes}
 use Rattle.std.specs.Borrow.{Bor}
 use Rattle.span_core.specs.Field.{present, value_text}
 use Rattle.span_core.specs.Level.{level_text}
@@ -8,6 +8,7 @@ use Rattle.span_core.specs.declared.field.FieldValue.{FieldValue}
 use Rattle.span_core.specs.declared.field.FieldValue.TheVariants as value
 use Rattle.span_core.specs.declared.metadata.Metadata.{Metadata}
 use Rattle.span_fmt.specs.Escape.{escaped}
+use Rattle.span_fmt.specs.Lane.{Naming, lane_text}
 use Rattle.span_fmt.specs.Quote.{quoted}
 
 -- a text has these bytes appended
@@ -31,9 +32,10 @@ fields_text values = flat_map (λ f. field_text f.0.now f.1) (present values)
 abbrev pub indent : {A : Type 0} → List A → List ℕ
 indent xs = flat_map (λ x. codes "  ") xs
 
--- how a line begins: with its lane, and two spaces for each of these spans
-abbrev pub head_text : {A : Type 0} → ℕ → List A → List ℕ
-head_text lane spans = decimal lane ++ codes " " ++ indent spans
+-- how a line begins: with its lane, by its name if it has one, and two spaces for each of these
+-- spans
+abbrev pub head_text : {A : Type 0} → Naming → ℕ → List A → List ℕ
+head_text names lane spans = lane_text names lane ++ codes " " ++ indent spans
 
 -- how a line ends: with the target, the name, and these values
 abbrev pub rest_text : Metadata → List (Bor (List ℕ) × FieldValue) → List ℕ

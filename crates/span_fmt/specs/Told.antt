@@ -6,6 +6,7 @@ use Rattle.span_layers.specs.Observe.{ObserverStep, ObserverSteps, observer_of}
 use Rattle.span_layers.specs.declared.observe.Observer.{Observer}
 use Rattle.span_registry.specs.Position.{Heard, Here}
 use Rattle.span_fmt.specs.Known.{SpanTexts, Spares, given_text, known_after}
+use Rattle.span_fmt.specs.Lane.{Naming}
 use Rattle.span_fmt.specs.Lines as lines
 use Rattle.span_fmt.specs.Lines.{lines_steps, notice_line}
 use Rattle.span_fmt.specs.Tree as tree
@@ -38,16 +39,17 @@ module _ {T : Type 0} (text_of : T → List ℕ) (has_failed : T → Bool) where
 
 -- the text of what a tree is notified of: the lines in order, each of what its own context shows
 -- then
-abbrev pub heard_text : Heard → List ℕ
-heard_text heard = flat_map (λ told. notice_text told.notice told.view) heard
+abbrev pub heard_text : Naming → Heard → List ℕ
+heard_text names heard = flat_map (λ told. notice_text names told.notice told.view) heard
 
 -- a tree is notified of these
 abbrev pub TreeHears : Observer Tree → Heard → Observer Tree → Type 0
 TreeHears = ObserverHears tree_steps
 
--- the tree writes the lines of all this, unless it fails
-abbrev pub WritesAll : Heard → Tree → Tree → Type 0
-WritesAll = WritesText tree.text_of tree.has_failed heard_text
+-- the tree writes the lines of all this, unless it fails, and keeps the names of lanes
+pub record WritesAll (heard : Heard) (x y : Tree) : Type 0 where
+  pub text : WritesText tree.text_of tree.has_failed (heard_text (tree.names_of x)) heard x y
+  pub names : tree.names_of y ≡ tree.names_of x
 
 -- each tree writes the lines of all that it is notified of, unless it fails
 abbrev pub TreesWriteAll : Type 0
@@ -67,20 +69,23 @@ KnowsWhatWasGiven = (x : ℕ) (heard : Heard) (known : SpanTexts)
 
 -- the lines of the events among this, in order, each in its own view and with what is known of
 -- spans by then
-abbrev pub heard_lines : SpanTexts → Heard → List ℕ
-heard_lines known [] = []
-heard_lines known (told ∷ heard) =
-    notice_line told.notice told.view known ++ heard_lines (known_after told.notice known) heard
+abbrev pub heard_lines : Naming → SpanTexts → Heard → List ℕ
+heard_lines names known [] = []
+heard_lines names known (told ∷ heard) =
+    notice_line names told.notice told.view known
+    ++ heard_lines names (known_after told.notice known) heard
 
 -- a `Lines` is notified of these
 abbrev pub LinesHear : Observer Lines → Heard → Observer Lines → Type 0
 LinesHear = ObserverHears lines_steps
 
 -- a `Lines` writes a line for each event among this, and knows what spans were given, unless it
--- fails
+-- fails; it keeps the names of lanes
 pub record WritesLines (heard : Heard) (x y : Lines) : Type 0 where
-  pub text : WritesText lines.text_of lines.has_failed (heard_lines (lines.known_of x)) heard x y
+  pub text : WritesText lines.text_of lines.has_failed
+      (heard_lines (lines.names_of x) (lines.known_of x)) heard x y
   pub known : lines.has_failed y ≡ false → lines.known_of y ≡ known_by heard (lines.known_of x)
+  pub names : lines.names_of y ≡ lines.names_of x
 
 -- each `Lines` writes a line for each event that it is notified of, unless it fails
 abbrev pub LinesWriteEvents : Type 0

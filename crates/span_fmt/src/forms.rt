@@ -1,15 +1,16 @@
 //! What `Tree` and `Lines` write, as forms.
-ghost use Rattle.std.specs.Prelude.{◌≡◌, ◌≢◌, IfOk, OnErr, [], string_bytes};
+ghost use Rattle.std.specs.Prelude.{◌≡◌, ◌≢◌, IfOk, OnErr, OnOk, [], string_bytes};
 ghost use Rattle.span_core.specs.Span.{number_of};
-ghost use Rattle.span_fmt.specs.Forms.{lines_give, lines_miss, known_by_form, tree_gives, tree_misses};
-ghost use Rattle.span_fmt.specs.Known.{nothing_known, with_values};
+ghost use Rattle.span_fmt.specs.Forms.{lines_give, lines_miss, known_by_form, names_by_form, names_by_tree, tree_gives, tree_misses};
+ghost use Rattle.span_fmt.specs.Known.{nothing_known, with_text, with_values};
 ghost use Rattle.span_fmt.specs.Text.{fields_text};
 
 use crate::form::Form;
 use crate::known::Known;
+use crate::lane::LaneNames;
 use crate::lines::line_due;
 use crate::tree::text_due;
-use span_core::{FieldValue, Id};
+use span_core::{FieldValue, Id, Lane};
 use span_registry::{ContextMut, Notice, Subscriber, laws};
 use std::alloc::{AllocError, Global};
 
@@ -17,12 +18,27 @@ use std::alloc::{AllocError, Global};
 #[derive(Drop)]
 pub struct TreeForm {
     alloc: Global,
+    names: LaneNames,
 }
 
 impl TreeForm {
-    /// The lines of a `Tree`.
-    pub fn new(alloc: Global) -> TreeForm {
-        TreeForm { alloc }
+    /// The lines of a `Tree` that has no names of lanes.
+    pub fn new(alloc: Global) -> TreeForm
+        ensures { names_by_tree result ≡ nothing_known }
+    {
+        TreeForm {
+            alloc,
+            names: LaneNames::new(alloc),
+        }
+    }
+
+    /// Gives a lane a name, which lines show from now on; an empty one is none.
+    pub fn name_lane(&mut self, lane: Lane, name: &str) -> Result<(), AllocError>
+        ensures named { OnOk result
+            (names_by_tree self.new ≡ with_text lane.0 name.now (names_by_tree self.old)) }
+        ensures unchanged { OnErr result (names_by_tree self.new ≡ names_by_tree self.old) }
+    {
+        self.names.set(self.alloc, lane, name)
     }
 }
 
@@ -37,7 +53,7 @@ impl<S: Subscriber> Form<S> for TreeForm {
         ctx: &ContextMut<'_, S>,
     ) -> Result<String, AllocError> {
         laws::extensions_change_no_look_up();
-        text_due(self.alloc, notice, ctx)
+        text_due(self.alloc, &self.names, notice, ctx)
     }
 }
 
@@ -48,23 +64,40 @@ impl<S: Subscriber> Form<S> for TreeForm {
 pub struct LinesForm {
     alloc: Global,
     known: Known,
+    names: LaneNames,
 }
 
 impl Drop for LinesForm {
     fn drop(self) {
-        let LinesForm { alloc, known } = self;
+        let LinesForm {
+            alloc,
+            known,
+            names,
+        } = self;
     }
 }
 
 impl LinesForm {
-    /// The lines of a `Lines` that knows no span's values.
+    /// The lines of a `Lines` that knows no span's values, and has no names of lanes.
     pub fn new(alloc: Global) -> LinesForm
-        ensures { known_by_form result ≡ nothing_known }
+        ensures known { known_by_form result ≡ nothing_known }
+        ensures names { names_by_form result ≡ nothing_known }
     {
         LinesForm {
             alloc,
             known: Known::new(alloc),
+            names: LaneNames::new(alloc),
         }
+    }
+
+    /// Gives a lane a name, which lines show from now on; an empty one is none.
+    pub fn name_lane(&mut self, lane: Lane, name: &str) -> Result<(), AllocError>
+        ensures named { OnOk result
+            (names_by_form self.new ≡ with_text lane.0 name.now (names_by_form self.old)) }
+        ensures unchanged { OnErr result (names_by_form self.new ≡ names_by_form self.old) }
+        ensures known { known_by_form self.new ≡ known_by_form self.old }
+    {
+        self.names.set(self.alloc, lane, name)
     }
 
     /// Notes values that a span is given; there is no line of that.
@@ -78,6 +111,7 @@ impl LinesForm {
             ≡ with_values (number_of id) values.now (known_by_form self.old))) }
         ensures unchanged { OnErr result (known_by_form self.new ≡ known_by_form self.old) }
         ensures refused { OnErr result (fields_text values.now ≢ []) }
+        ensures names { names_by_form self.new ≡ names_by_form self.old }
     {
         self.known.add(self.alloc, id, values)?;
         Ok(String::new(self.alloc))
@@ -102,7 +136,7 @@ impl<S: Subscriber> Form<S> for LinesForm {
                 self.known.forget(id);
                 Ok(String::new(self.alloc))
             }
-            Notice::Event(event) => line_due(self.alloc, event, &self.known, ctx),
+            Notice::Event(event) => line_due(self.alloc, &self.names, event, &self.known, ctx),
             _ => Ok(String::new(self.alloc)),
         }
     }

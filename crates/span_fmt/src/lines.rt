@@ -1,16 +1,18 @@
 //! A line for each event, with the spans around it, and the values that they were given.
 ghost use Rattle.std.specs.Io.KnownBytes.{Appends};
-ghost use Rattle.std.specs.Prelude.{◌≡◌, ◌≢◌, IfErr, IfOk, OnOk, [], false, true, flat_map, reverse, string_bytes};
+ghost use Rattle.std.specs.Prelude.{◌≡◌, ◌≢◌, IfErr, IfOk, OnErr, OnOk, [], false, true, flat_map, reverse, string_bytes};
 ghost use Rattle.span_core.specs.Span.{number_of};
 ghost use Rattle.span_registry.specs.Context.{view_lent};
-ghost use Rattle.span_fmt.specs.Known.{known_in, nothing_known, with_values};
-ghost use Rattle.span_fmt.specs.Lines.{bare, begun_text, braced, event_line, has_failed, known_of, lines_steps, reference_label, spaced, label_text, text_of};
+ghost use Rattle.span_fmt.specs.Known.{known_in, nothing_known, with_text, with_values};
+ghost use Rattle.span_fmt.specs.Lane.{names_in};
+ghost use Rattle.span_fmt.specs.Lines.{bare, begun_text, braced, event_line, has_failed, known_of, lines_steps, names_of, reference_label, spaced, label_text, text_of};
 ghost use Rattle.span_fmt.specs.Text.{IsContinued, fields_text};
 ghost use Rattle.span_fmt.specs.Tree.{given};
 
 use crate::escape::write_escaped;
 use crate::fields::{ROOM, write_rest};
 use crate::known::Known;
+use crate::lane::LaneNames;
 use crate::page::Page;
 use span_core::{Event, FieldValue, Id, Lane, Level};
 use span_layers::{AlwaysUsableObserver, Observe};
@@ -21,33 +23,41 @@ use std::io::{self, Write};
 /// A layer that writes a line for each event that it is notified of, up to the first notice that
 /// finds no memory.
 ///
-/// A line names the spans around the event that its own context shows, from the root on, each with
-/// the values that it was given.
+/// A line begins with its lane, by its name in quotes if it has one. It names the spans around the
+/// event that its own context shows, from the root on, each with the values that it was given.
 ///
-/// Stands for `tracing_subscriber::fmt::Layer`, without time stamps, threads' names and colours.
+/// Stands for `tracing_subscriber::fmt::Layer`, without time stamps and colours.
 pub struct Lines {
     alloc: Global,
     page: Page,
     known: Known,
+    names: LaneNames,
 }
 
 impl Drop for Lines {
     fn drop(self) {
-        let Lines { alloc, page, known } = self;
+        let Lines {
+            alloc,
+            page,
+            known,
+            names,
+        } = self;
     }
 }
 
 impl Lines {
-    /// A `Lines` that has written nothing, and knows no span's values.
+    /// A `Lines` that has written nothing, knows no span's values, and has no names of lanes.
     pub fn new(alloc: Global) -> Lines
         ensures text { text_of result ≡ [] }
         ensures failed { has_failed result ≡ false }
         ensures known { known_of result ≡ nothing_known }
+        ensures names { names_of result ≡ nothing_known }
     {
         Lines {
             alloc,
             page: Page::new(alloc),
             known: Known::new(alloc),
+            names: LaneNames::new(alloc),
         }
     }
 
@@ -83,8 +93,21 @@ impl Lines {
         ensures text { text_of self.new ≡ [] }
         ensures failed { has_failed self.new ≡ false }
         ensures known { known_of self.new ≡ known_of self.old }
+        ensures names { names_of self.new ≡ names_of self.old }
     {
         self.page.take(self.alloc)
+    }
+
+    /// Gives a lane a name, which lines show from now on; an empty one is none.
+    pub fn name_lane(&mut self, lane: Lane, name: &str) -> Result<(), AllocError>
+        ensures named { OnOk result
+            (names_of self.new ≡ with_text lane.0 name.now (names_of self.old)) }
+        ensures unchanged { OnErr result (names_of self.new ≡ names_of self.old) }
+        ensures text { text_of self.new ≡ text_of self.old }
+        ensures failed { has_failed self.new ≡ has_failed self.old }
+        ensures known { known_of self.new ≡ known_of self.old }
+    {
+        self.names.set(self.alloc, lane, name)
     }
 
     /// Notes the values that a span is given, if memory is found for them, and was for all before.
@@ -95,6 +118,7 @@ impl Lines {
             → known_of self.new ≡ with_values (number_of id) values.now (known_of self.old) }
         ensures failed { has_failed self.new ≡ true → known_of self.new ≡ known_of self.old }
         ensures free { fields_text values.now ≡ [] → has_failed self.new ≡ has_failed self.old }
+        ensures names { names_of self.new ≡ names_of self.old }
     {
         if self.page.is_cut() {
             return;
@@ -115,7 +139,7 @@ impl<S: Subscriber> Observe<S> for Lines {
             Notice::Record(id, values) => self.note(id, values.values()),
             Notice::Close(id) => self.known.forget(id),
             Notice::Event(event) => {
-                let line = line_due(self.alloc, event, &self.known, ctx);
+                let line = line_due(self.alloc, &self.names, event, &self.known, ctx);
                 self.page.write(line);
             }
             _ => {}
@@ -126,30 +150,34 @@ impl<S: Subscriber> Observe<S> for Lines {
 /// The line of an event in what a hook sees, with what is known of spans.
 pub(crate) fn line_due<S: Subscriber>(
     alloc: Global,
+    names: &LaneNames,
     event: &Event<'_>,
     known: &Known,
     ctx: &ContextMut<'_, S>,
 ) -> Result<String, AllocError>
     ensures text { IfOk result (λ line. string_bytes line
-        ≡ event_line event.now (view_lent S.registry ctx.now) (known_in known.now)) }
-    ensures refused { IfErr result
-        (λ e. event_line event.now (view_lent S.registry ctx.now) (known_in known.now) ≢ []) }
+        ≡ event_line (names_in names.now) event.now (view_lent S.registry ctx.now)
+        (known_in known.now)) }
+    ensures refused { IfErr result (λ e. event_line (names_in names.now) event.now
+        (view_lent S.registry ctx.now) (known_in known.now) ≢ []) }
 {
     let look = ctx.ctx();
     let around = spans_around(alloc, look.event_scope(event), known)?;
     let metadata = event.metadata();
-    let mut line = begun(alloc, ctx.lane(), metadata.level())?;
+    let mut line = begun(alloc, names, ctx.lane(), metadata.level())?;
     write_spaced(&mut line, around.as_str())?;
     write_rest(&mut line, metadata, event.values())?;
     Ok(line)
 }
 
 /// How a line begins: with its lane and level.
-fn begun(alloc: Global, lane: Lane, level: Level) -> Result<String, AllocError>
-    ensures { IfOk result (λ line. string_bytes line ≡ begun_text lane.0 level) }
+fn begun(alloc: Global, names: &LaneNames, lane: Lane, level: Level) -> Result<String, AllocError>
+    ensures { IfOk result
+        (λ line. string_bytes line ≡ begun_text (names_in names.now) lane.0 level) }
 {
     let mut line = String::with_capacity(alloc, ROOM)?;
-    write!(line, "{} {level} ", lane.0)?;
+    names.write_lane(&mut line, lane)?;
+    write!(line, " {level} ")?;
     Ok(line)
 }
 

@@ -17,15 +17,16 @@ use Rattle.span_core.specs.declared.level.Level.{Level}
 use Rattle.span_core.specs.declared.metadata.Metadata.{Metadata}
 use Rattle.span_fmt.specs.Between.{AreBare, IsBare, IsBareFloat, IsBareSite, Outside, SpanValues, between, quoted_one_by_one, text_in, texts_in}
 use Rattle.span_fmt.specs.Escape.{escaped}
+use Rattle.span_fmt.specs.Lane.{name_or_number, name_told}
 use Rattle.span_fmt.specs.Lines.{spaced}
 use Rattle.span_fmt.specs.Text.{shown_text}
 use Rattle.span_fmt.specs.Tree.{spans_round}
 use Rattle.span_fmt.proofs.Between.{Tells, decimal_bare, has_quote, level_bare, name_bare, same_texts, tells_any, tells_bare, tells_both, tells_each}
-use Rattle.span_fmt.proofs.Between.{tells_more, tells_nothing, tells_quoted, tells_spaced, tells_then, tells_value, tells_without, told_between}
-use Rattle.span_format.specs.Between.{FormatsTellTheirTexts, IsBareEvent, lane_texts, line_of, name_told, texts_from_root, texts_outwards, texts_told, told_in}
+use Rattle.span_fmt.proofs.Between.{tells_more, tells_name, tells_nothing, tells_quoted, tells_spaced, tells_then, tells_value, tells_without, told_between}
+use Rattle.span_format.specs.Between.{FormatsTellTheirTexts, IsBareEvent, lane_texts, line_of, texts_from_root, texts_outwards, texts_told, told_in}
 use Rattle.span_format.specs.Field.{bare, field_text, fields_text, has_message, is_message, mark, name_text, separator, unled, words_text}
 use Rattle.span_format.specs.Line.{at_text, compact_line, full_line, line_in, place_part, pretty_line}
-use Rattle.span_format.specs.Look.{Looks, begun_text, lane_column, level_column, margin, name_or_number, target_text}
+use Rattle.span_format.specs.Look.{Looks, begun_text, lane_column, level_column, margin, target_text}
 use Rattle.span_format.specs.Part.{behind_with, braced, from_root, outwards, part_text, place_text, seen_part}
 use Rattle.span_format.specs.Style.{bold_name, dim_target, start_of, styled}
 use Rattle.span_format.specs.declared.layout.Layout.{Layout}
@@ -134,10 +135,6 @@ shown_target look m site =
     (has_none (dim_target look.ansi m) (codes ": ") (target_bare look.ansi m site) refl) refl
 
 -- ---- lanes
-
-tells_name : (name : List ℕ) (lane : ℕ) → Tells (name_or_number name lane) (name_told name)
-tells_name [] lane = tells_bare (decimal lane) (decimal_bare lane)
-tells_name (b ∷ bytes) lane = tells_quoted (b ∷ bytes)
 
 tells_shown : (shown : Bool) (text : List ℕ) (told : List (List ℕ)) → Tells text told → Tells (if shown then text else []) (if shown then told else [])
 tells_shown true text told h = h

@@ -7,6 +7,7 @@ use Rattle.std.specs.Str.{IsUtf8}
 use Rattle.span_core.specs.Event.{event_metadata, event_values}
 use Rattle.span_core.specs.declared.event.Event.{Event}
 use Rattle.span_fmt.specs.Between.{AreBare, IsBareSite, Outside, SpanValues, between, quoted_one_by_one, texts_in}
+use Rattle.span_fmt.specs.Lane.{name_told}
 use Rattle.span_fmt.specs.Tree.{spans_round}
 use Rattle.span_format.specs.Field.{fields_text}
 use Rattle.span_format.specs.Line.{event_line}
@@ -14,11 +15,6 @@ use Rattle.span_format.specs.Look.{Looks}
 use Rattle.span_format.specs.declared.layout.Layout.{Layout}
 use Rattle.span_format.specs.declared.layout.Layout.TheVariants as layout
 use Rattle.span_registry.specs.View.{View}
-
--- a name, if there is one
-abbrev pub name_told : List ℕ → List (List ℕ)
-name_told [] = []
-name_told (b ∷ bytes) = (b ∷ bytes) ∷ []
 
 -- the name of a lane, where lanes are shown
 abbrev pub lane_texts : Looks → ℕ → List (List ℕ)

@@ -4,8 +4,7 @@ use Rattle.span_core.specs.Level.{level_text}
 use Rattle.span_core.specs.declared.level.Level.{Level}
 use Rattle.span_core.specs.declared.metadata.Metadata.{Metadata}
 use Rattle.span_fmt.specs.Known.{nothing_known}
-use Rattle.span_fmt.specs.Quote.{quoted}
-use Rattle.span_format.specs.Lane.{names_in}
+use Rattle.span_fmt.specs.Lane.{Naming, name_or_number, names_in}
 use Rattle.span_format.specs.Style.{dim_target, styled}
 use Rattle.span_format.specs.declared.layout.Layout.{Layout}
 use Rattle.span_format.specs.declared.look.Look.{Look}
@@ -19,7 +18,7 @@ pub record Looks : Type 0 where
   pub target : Bool
   pub lanes : Bool
   pub ansi : Bool
-  pub names : ℕ → List ℕ
+  pub names : Naming
 
 -- how they look where nothing else is asked for
 abbrev pub new_looks : Layout → Looks
@@ -53,11 +52,6 @@ level_column look level =
     if look.level then
     styled look.ansi (style.Level level) (margin level ++ level_text level) ++ codes " "
     else []
-
--- a name in quotes, or this number where there is none
-abbrev pub name_or_number : List ℕ → ℕ → List ℕ
-name_or_number [] n = decimal n
-name_or_number (b ∷ bytes) n = quoted (b ∷ bytes)
 
 -- a lane by its name in quotes, or by its number where it has none
 abbrev pub lane_text : Looks → ℕ → List ℕ

@@ -8,12 +8,11 @@ ghost use Rattle.span_format.specs.Kept.{with_values};
 ghost use Rattle.span_format.specs.Look.{new_looks};
 
 use crate::kept::Kept;
-use crate::lane::LaneNames;
 use crate::layout::Layout;
 use crate::line::event_line;
 use crate::look::Look;
 use span_core::{FieldValue, Id, Lane};
-use span_fmt::Form;
+use span_fmt::{Form, LaneNames};
 use span_registry::{ContextMut, Notice, Subscriber, laws};
 use std::alloc::{AllocError, Global};
 

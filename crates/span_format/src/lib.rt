@@ -6,7 +6,6 @@
 mod field;
 mod format;
 mod kept;
-mod lane;
 pub mod laws;
 mod layout;
 mod line;

@@ -3,11 +3,10 @@ ghost use Rattle.std.specs.Prelude.{◌≡◌, OnOk};
 ghost use Rattle.span_fmt.specs.Text.{IsContinued};
 ghost use Rattle.span_format.specs.Look.{begun_text, lane_text, level_column, looks, margin, target_text};
 
-use crate::lane::LaneNames;
 use crate::layout::Layout;
 use crate::style::{Style, ended, write_styled};
 use span_core::{Lane, Level, Metadata};
-use span_fmt::write_quoted;
+use span_fmt::LaneNames;
 use std::alloc::AllocError;
 
 /// How lines look: how they are laid out, what they show beside spans, message and fields, whether
@@ -61,11 +60,7 @@ impl Look {
         ensures { OnOk result
             (IsContinued text.old text.new (lane_text (looks self.now) lane.0)) }
     {
-        let name = self.names.name(lane);
-        if name.is_empty() {
-            return write!(text, "{}", lane.0);
-        }
-        write_quoted(text, name)
+        self.names.write_lane(text, lane)
     }
 
     /// Writes a target, a colon and a space, if targets are shown.

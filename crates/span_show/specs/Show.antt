@@ -12,7 +12,7 @@ use Rattle.span_otlp.specs.Otlp.{AllMean, requests_of}
 use Rattle.span_export.specs.Page.{IsPage}
 use Rattle.span_export.specs.Picture.{IsPicture}
 use Rattle.span_otlp.specs.declared.otlp.Trace.{Trace}
-use Rattle.span_fmt.specs.Forms.{known_by_form, lines_give, tree_gives}
+use Rattle.span_fmt.specs.Forms.{known_by_form, lines_give, names_by_form, names_by_tree, tree_gives}
 use Rattle.span_fmt.specs.Known.{nothing_known}
 use Rattle.span_fmt.specs.declared.forms.LinesForm.{LinesForm}
 use Rattle.span_fmt.specs.declared.forms.TreeForm.{TreeForm}
@@ -111,9 +111,11 @@ module _ {W : Type 0} (contents : W → Option (List ℕ)) where
     -- export of their points
     abbrev pub IsShown : Format → List Request → W → W → Type 0
     IsShown Tree requests writer after =
-        (form : TreeForm) × IsStreamed tree_gives t contents form requests writer after
+        (form : TreeForm) × (names_by_tree form ≡ nothing_known)
+        × IsStreamed tree_gives t contents form requests writer after
     IsShown Lines requests writer after =
         (form : LinesForm) × (known_by_form form ≡ nothing_known)
+        × (names_by_form form ≡ nothing_known)
         × IsStreamed lines_give l contents form requests writer after
     IsShown (Points format) requests writer after =
         IsWritten (IsExportOf s format requests) writer after

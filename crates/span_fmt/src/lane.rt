@@ -1,21 +1,25 @@
 //! Names of lanes.
 ghost use Rattle.std.specs.Prelude.{◌≡◌, OnErr, OnOk};
 ghost use Rattle.span_fmt.specs.Known.{nothing_known, with_text};
-ghost use Rattle.span_format.specs.Lane.{names_in};
+ghost use Rattle.span_fmt.specs.Lane.{lane_text, names_in};
+ghost use Rattle.span_fmt.specs.Text.{IsContinued};
 
+use crate::quote::write_quoted;
 use span_core::Lane;
 use std::alloc::{AllocError, Global};
 use std::collections::BTreeMap;
 
 /// Names of lanes, by the lanes' numbers.
+///
+/// Stands for the names that threads have in Rust.
 #[derive(Drop)]
-pub(crate) struct LaneNames {
+pub struct LaneNames {
     names: BTreeMap<u32, String>,
 }
 
 impl LaneNames {
     /// No lane has a name.
-    pub(crate) fn new(alloc: Global) -> LaneNames
+    pub fn new(alloc: Global) -> LaneNames
         ensures { names_in result ≡ nothing_known }
     {
         LaneNames {
@@ -24,7 +28,7 @@ impl LaneNames {
     }
 
     /// The name of a lane, and an empty text where it has none.
-    pub(crate) fn name(&self, lane: Lane) -> &str
+    pub fn name(&self, lane: Lane) -> &str
         ensures { result.now ≡ names_in self.now lane.0 }
     {
         match self.names.get(&lane.0) {
@@ -33,8 +37,8 @@ impl LaneNames {
         }
     }
 
-    /// Gives a lane a name.
-    pub(crate) fn set(&mut self, alloc: Global, lane: Lane, name: &str) -> Result<(), AllocError>
+    /// Gives a lane a name; an empty one is none.
+    pub fn set(&mut self, alloc: Global, lane: Lane, name: &str) -> Result<(), AllocError>
         ensures named { OnOk result
             (names_in self.new ≡ with_text lane.0 name.now (names_in self.old)) }
         ensures unchanged { OnErr result (names_in self.new ≡ names_in self.old) }
@@ -44,5 +48,19 @@ impl LaneNames {
             Ok(_) => Ok(()),
             Err(_) => Err(AllocError),
         }
+    }
+
+    /// Writes a lane: its name in quotes, as `write_quoted` has it, or else its number.
+    ///
+    /// Where memory is refused, no clause says what of it is written: throw the text away.
+    pub fn write_lane(&self, text: &mut String, lane: Lane) -> Result<(), AllocError>
+        ensures { OnOk result
+            (IsContinued text.old text.new (lane_text (names_in self.now) lane.0)) }
+    {
+        let name = self.name(lane);
+        if name.is_empty() {
+            return write!(text, "{}", lane.0);
+        }
+        write_quoted(text, name)
     }
 }
