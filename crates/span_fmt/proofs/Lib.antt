@@ -4,6 +4,7 @@ mod Bare
 pub mod Between
 mod Filled
 mod Given
+mod Interleaving
 mod Noticed
 mod Outermost
 mod Scopes

@@ -3,6 +3,7 @@ pub mod Escape
 pub mod Form
 pub mod Forms
 pub mod FormsTold
+pub mod Interleaved
 pub mod Known
 pub mod Lane
 pub mod Lines
