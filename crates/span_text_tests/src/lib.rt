@@ -11,3 +11,5 @@ mod stamp;
 mod stream;
 #[cfg(test)]
 mod text;
+#[cfg(test)]
+mod tree;
