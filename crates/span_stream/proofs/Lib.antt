@@ -1,6 +1,10 @@
+mod Characters
 mod Coloured
 mod Given
 mod Lined
+mod Numbers
 mod Shallow
+mod Spelling
 mod Timed
+mod Tokens
 mod Valued

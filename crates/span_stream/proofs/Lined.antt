@@ -1,5 +1,5 @@
 -- Lines of JSON: of what is known of spans, and of what a view shows, extensions aside.
-use Rattle.std.proofs.Common.{◌≡◌, ◌≤◌, ◌∙◌, ℕ, List, [], ◌∷◌, ◌++◌, Option, Result, Ok, Err, OnOk, arith, ap, map, refl, subst, sym}
+use Rattle.std.proofs.Common.{◌≡◌, ◌≤◌, ◌∙◌, ℕ, List, [], ◌∷◌, ◌++◌, Option, Result, Ok, Err, OnOk, IsUtf8, arith, ap, map, refl, subst, sym}
 use Rattle.std.specs.Borrow.{Bor}
 use Rattle.std.specs.Prelude.{◌==◌, OnErr, Some, codes, reverse}
 use Rattle.json.specs.Lex.{tokens}
@@ -19,8 +19,11 @@ use Rattle.span_registry.specs.declared.context.Context.{Context}
 use Rattle.span_registry.specs.declared.context.ContextMut.{ContextMut}
 use Rattle.span_registry.specs.declared.scope.Scope.{Scope}
 use Rattle.span_fmt.proofs.CallerLemmas.{name_plainly, name_seen, references_round, round_plainly}
+use Rattle.span_stream.proofs.Tokens.{inert_is, inert_means}
 use Rattle.span_stream.proofs.Shallow.{all_shallow, event_depth, one_flat, span_depth, values_flat}
+use Rattle.span_stream.specs.Inert.{inert}
 use Rattle.span_stream.specs.Json.{IsLineOf, event_object, objects_around, reference_object, seen_object}
+use Rattle.span_stream.specs.Lane.{LaneTexts}
 use Rattle.span_stream.specs.Members.{AreFlat, SpanMembers, with_members}
 use Rattle.span_stream.specs.Object.{event_data, span_data}
 use Rattle.span_fmt.specs.Tree.{given, spans_round}
@@ -59,19 +62,22 @@ objects_found {S} registry c look e found known l h =
     ∙ (λ i. map (λ x. span_data (sym (name_seen s (lane_lent c).0 (filters_lent c) x) i) (known x)) spans)
 
 -- extensions make no difference to them
-pub object_plainly : (s : Store) (lane : ℕ) (mask : FilterSet) → ShowsPlainly s lane mask → (stamp : List ℕ) (e : Event) (known : SpanMembers)
-    → event_object stamp e (view_of s lane mask) known ≡ event_object stamp e (plain_view s lane mask) known
-object_plainly s lane mask law stamp e known =
-    λ i. event_data stamp e (map (λ x. span_data (name_plainly s lane mask x i) (known x)) (reverse (round_plainly s lane mask law e i)))
+pub object_plainly : (s : Store) (lane : ℕ) (mask : FilterSet)
+    → ShowsPlainly s lane mask → (stamp : List ℕ) (e : Event) (known : SpanMembers) (names : LaneTexts)
+    → event_object stamp e (view_of s lane mask) known names ≡ event_object stamp e (plain_view s lane mask) known names
+object_plainly s lane mask law stamp e known names =
+    λ i. event_data stamp e lane (names lane) (map (λ x. span_data (name_plainly s lane mask x i) (known x)) (reverse (round_plainly s lane mask law e i)))
 
 -- ---- the line of an event
 
--- an object of an event is shallow, so its text reads back
-pub line_made : (stamp : List ℕ) (e : Event) (v : View) (known : SpanMembers) (text line : List ℕ) (made : Data)
-    → AreFlat known → made ≡ event_object stamp e v known → (depth made ≤ max_depth → read text ≡ Some made)
-    → text ≡ print (tokens text) → line ≡ text ++ codes "\n" → IsLineOf (event_object stamp e v known) line
-line_made stamp e v known text line made flat is reads compact grown =
+-- an object of an event is shallow, so its text reads back, and is made inert
+pub line_made : (stamp : List ℕ) (e : Event) (v : View) (known : SpanMembers) (names : LaneTexts) (text line : List ℕ) (made : Data)
+    → AreFlat known → made ≡ event_object stamp e v known names → (depth made ≤ max_depth → read text ≡ Some made)
+    → text ≡ print (tokens text) → IsUtf8 text → line ≡ inert text ++ codes "\n" → IsLineOf (event_object stamp e v known names) line
+line_made stamp e v known names text line made flat is reads compact utf8 grown =
     let shallow =
-    event_depth stamp e (objects_around e v known) (all_shallow (seen_object v known) (λ x. span_depth _ (known x) (flat x)) (reverse (spans_round e v))) in
+    event_depth stamp
+    e v.lane (names v.lane) (objects_around e v known) (all_shallow (seen_object v known) (λ x. span_depth _ (known x) (flat x)) (reverse (spans_round e v))) in
     let few : depth made ≤ max_depth = omega (arith, shallow, ap depth is) in
-    (text, reads few ∙ ap Some is, compact, grown)
+    let means = inert_means text (event_object stamp e v known names) utf8 compact (reads few ∙ ap Some is) in
+    (inert text, means.0, means.1, inert_is text utf8, grown)

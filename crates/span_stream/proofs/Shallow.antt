@@ -6,7 +6,7 @@ use Rattle.std.specs.Ordering.{match_ordering}
 use Rattle.std.specs.Prelude.{⊤, codes, if◌then◌else◌, Some, None, unwrap_or}
 use Rattle.std.specs.declared.cmp.Ordering.{Ordering}
 use Rattle.std.specs.declared.cmp.Ordering.TheVariants.{Equal, Greater, Less}
-use Rattle.serde_json.specs.Data.{Data, Members, Num, array, depth, items_depth, member, members_depth, no_members, null, number, put, string}
+use Rattle.serde_json.specs.Data.{Data, Members, Num, array, depth, items_depth, member, members_depth, no_members, null, number, put, string, unsigned}
 use Rattle.serde_json.specs.View.{items_of}
 use Rattle.span_core.specs.Event.{event_metadata, event_values}
 use Rattle.span_core.specs.Field.{is_absent}
@@ -16,7 +16,7 @@ use Rattle.span_core.specs.declared.event.Event.{Event}
 use Rattle.span_core.specs.declared.field.FieldValue.{FieldValue}
 use Rattle.span_core.specs.declared.field.FieldValue.TheVariants as value
 use Rattle.span_core.specs.declared.metadata.Metadata.{Metadata}
-use Rattle.span_stream.specs.Object.{event_data, fields_data, last_of, plain_members, span_data, with_spans}
+use Rattle.span_stream.specs.Object.{event_data, fields_data, last_of, plain_members, span_data, with_lane, with_spans}
 use Rattle.span_stream.specs.Values.{value_data, with_value, with_values}
 
 one_of_three : (o : Ordering) (a b c : Members) (n : ℕ)
@@ -108,8 +108,16 @@ spans_depth (d ∷ ds) ms h p =
     put_depth (codes "spans") all (put (codes "span") inner ms) 2
     (omega (arith, items_shallow (d ∷ ds) h)) (put_depth (codes "span") inner ms 2 (omega (arith, last_shallow d ds h)) p)
 
-pub event_depth : (stamp : List ℕ) (e : Event) (spans : List Data) → AreShallow spans → depth (event_data stamp e spans) ≤ 3
-event_depth stamp e spans h =
+lane_depth : (lane : ℕ) (name : List ℕ) (ms : Members) → members_depth ms ≤ 1 → members_depth (with_lane lane name ms) ≤ 1
+lane_depth lane [] ms p = p
+lane_depth lane (b ∷ name) ms p =
+    text_put (codes "threadName") (b ∷ name)
+    (put (codes "threadId") (number (unsigned lane)) ms) (put_depth (codes "threadId") (number (unsigned lane)) ms 1 (omega arith) p)
+
+pub event_depth : (stamp : List ℕ) (e : Event) (lane : ℕ) (name : List ℕ) (spans : List Data) → AreShallow spans
+    → depth (event_data stamp e lane name spans) ≤ 3
+event_depth stamp e lane name spans h =
     let plain = plain_members stamp (event_metadata e) (event_values e) in
-    let few : members_depth plain ≤ 2 = omega (arith, plain_depth stamp (event_metadata e) (event_values e)) in
-    omega (arith, spans_depth spans plain h few)
+    let all = with_lane lane name plain in
+    let few : members_depth all ≤ 2 = omega (arith, lane_depth lane name plain (plain_depth stamp (event_metadata e) (event_values e))) in
+    omega (arith, spans_depth spans all h few)

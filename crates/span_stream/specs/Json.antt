@@ -14,6 +14,8 @@ use Rattle.span_fmt.specs.Tree.{spans_round}
 use Rattle.span_registry.specs.Behaviour.{Notice, OnClose, OnEvent, OnNewSpan, OnRecord}
 use Rattle.span_registry.specs.References.{Reference}
 use Rattle.span_registry.specs.View.{View}
+use Rattle.span_stream.specs.Inert.{IsInert, inert}
+use Rattle.span_stream.specs.Lane.{LaneTexts, names_in}
 use Rattle.span_stream.specs.Members.{SpanMembers, members_kept, with_members}
 use Rattle.span_stream.specs.Object.{event_data, span_data}
 use Rattle.span_stream.specs.Time.{IsTimeText}
@@ -51,20 +53,26 @@ seen_object v known x =
 abbrev pub objects_around : Event → View → SpanMembers → List Data
 objects_around e v known = map (seen_object v known) (reverse (spans_round e v))
 
--- the object of an event, with the spans round it that a view shows
-abbrev pub event_object : List ℕ → Event → View → SpanMembers → Data
-event_object stamp e v known = event_data stamp e (objects_around e v known)
+-- the object of an event, with the lane and the spans round it that a view shows
+abbrev pub event_object : List ℕ → Event → View → SpanMembers → LaneTexts → Data
+event_object stamp e v known names =
+    event_data stamp e v.lane (names v.lane) (objects_around e v known)
 
--- a line is JSON that reads as this, with nothing between its tokens, and a line feed
+-- A line is JSON that reads as this, and a line feed. In the JSON nothing stands between tokens, and
+-- no character may act on a terminal: each that would is escaped.
 abbrev pub IsLineOf : Data → List ℕ → Type 0
 IsLineOf d line =
-    (text : List ℕ) × (read text ≡ Some d) × (text ≡ print (tokens text))
+    (text : List ℕ) × (read text ≡ Some d) × (text ≡ inert (print (tokens text))) × IsInert text
     × (line ≡ text ++ codes "\n")
 
 module _ {C : Type 0} where
   -- what a form of JSON knows of spans
   abbrev pub known_of : JsonForm C → SpanMembers
   known_of x = members_kept x.members
+
+  -- the names that a form of JSON has for lanes
+  abbrev pub names_of : JsonForm C → LaneTexts
+  names_of x = names_in x.names
 
   -- its clock
   abbrev pub clock_of : JsonForm C → C
@@ -80,7 +88,7 @@ module _ {C : Type 0} (latest : C → ℕ) (reads : C → ℕ → C → Type 0) 
   GivesLine x (OnEvent e) v line y =
       (time : ℕ) × Reads latest reads (clock_of x) time (clock_of y)
       × ((stamp : List ℕ) × IsTimeText (style_of x) time stamp
-      × IsLineOf (event_object stamp e v (known_of x)) line)
+      × IsLineOf (event_object stamp e v (known_of x) (names_of x)) line)
   GivesLine x other v line y = (line ≡ []) × (clock_of y ≡ clock_of x)
 
   -- a form of JSON gives the line of an event, and knows the values that a span is given from then
@@ -90,6 +98,7 @@ module _ {C : Type 0} (latest : C → ℕ) (reads : C → ℕ → C → Type 0) 
     pub given : GivesLine x e v line y
     pub known : known_of y ≡ members_after e (known_of x)
     pub style : style_of y ≡ style_of x
+    pub names : names_of y ≡ names_of x
 
   -- how a form of JSON gives lines
   abbrev pub json_gives : FormSteps (JsonForm C)
@@ -105,6 +114,7 @@ module _ {C : Type 0} (latest : C → ℕ) (reads : C → ℕ → C → Type 0) 
     pub clock : MayRead e (clock_of x) (clock_of y)
     pub known : known_of y ≡ members_still e (known_of x)
     pub style : style_of y ≡ style_of x
+    pub names : names_of y ≡ names_of x
 
   -- how a form of JSON goes on then
   abbrev pub json_misses : FormMisses (JsonForm C)

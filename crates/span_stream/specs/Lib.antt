@@ -1,5 +1,7 @@
 pub mod Clocks
+pub mod Inert
 pub mod Json
+pub mod Lane
 pub mod Members
 pub mod Object
 pub mod Painted

@@ -1,7 +1,7 @@
 -- Objects in JSON of events and spans.
 use Rattle.std.specs.Prelude.{ℕ, List, [], ◌∷◌, codes}
 use Rattle.std.specs.Borrow.{Bor}
-use Rattle.serde_json.specs.Data.{Data, Members, array, no_members, object, put, string}
+use Rattle.serde_json.specs.Data.{Data, Members, array, no_members, number, object, put, string, unsigned}
 use Rattle.serde_json.specs.View.{items_of}
 use Rattle.span_core.specs.Event.{event_metadata, event_values}
 use Rattle.span_core.specs.Level.{level_text}
@@ -24,6 +24,13 @@ plain_members stamp m values =
     (put (codes "level") (string (level_text (level_of m)))
     (put (codes "timestamp") (string stamp) no_members)))
 
+-- these members, and a lane's number and its name, where it has one
+abbrev pub with_lane : ℕ → List ℕ → Members → Members
+with_lane lane [] ms = ms
+with_lane lane (b ∷ name) ms =
+    put (codes "threadName") (string (b ∷ name))
+    (put (codes "threadId") (number (unsigned lane)) ms)
+
 -- the last of these
 abbrev pub last_of : Data → List Data → Data
 last_of d [] = d
@@ -35,10 +42,11 @@ with_spans [] ms = ms
 with_spans (d ∷ ds) ms =
     put (codes "spans") (array (items_of (d ∷ ds))) (put (codes "span") (last_of d ds) ms)
 
--- the object of an event in these spans
-abbrev pub event_data : List ℕ → Event → List Data → Data
-event_data stamp e spans =
-    object (with_spans spans (plain_members stamp (event_metadata e) (event_values e)))
+-- the object of an event on a lane with this number and name, in these spans
+abbrev pub event_data : List ℕ → Event → ℕ → List ℕ → List Data → Data
+event_data stamp e lane name spans =
+    object (with_spans spans (with_lane lane name
+    (plain_members stamp (event_metadata e) (event_values e))))
 
 -- the object of a span: its values, and its name in the place of a value called `name`
 abbrev pub span_data : List ℕ → Members → Data

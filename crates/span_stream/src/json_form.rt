@@ -2,10 +2,11 @@
 ghost use Rattle.std.specs.Prelude.{◌≡◌, ℕ};
 ghost use Rattle.span_stream.specs.Members.{AreFlat, members_kept};
 
+use crate::lane::LaneNames;
 use crate::line::json_line;
 use crate::members::Members;
 use crate::time::TimeStyle;
-use span_core::{Event, FieldValue, Id};
+use span_core::{Event, FieldValue, Id, Lane};
 use span_fmt::Form;
 use span_registry::{ContextMut, Notice, Subscriber, laws};
 use span_times::Now;
@@ -13,7 +14,11 @@ use std::alloc::{AllocError, Global};
 
 /// A line for each event: an object in JSON with its `timestamp`, `level`, `target` and `fields`,
 /// whose `message` is its name unless a value is called so; and where it is in a span, the `span`
-/// and all `spans` round it, from the root on, each with its `name` and its other values.
+/// and all `spans` round it, from the root on, each with its `name` and its other values. Where its
+/// lane has a name, that is its `threadName`, and the lane's number its `threadId`.
+///
+/// In its texts control characters, the separators of lines and paragraphs, and what turns the
+/// direction of writing are escaped, so that a line acts on no terminal.
 ///
 /// Stands for `tracing_subscriber::fmt::format::Json`.
 pub struct JsonForm<C> {
@@ -21,6 +26,7 @@ pub struct JsonForm<C> {
     clock: C,
     style: TimeStyle,
     members: Members,
+    names: LaneNames,
     ghost flat: { AreFlat (members_kept members) },
 }
 
@@ -31,29 +37,48 @@ impl<C: Drop> Drop for JsonForm<C> {
             clock,
             style,
             members,
+            names,
         } = self;
     }
 }
 
 impl<C: Now> JsonForm<C> {
-    ghost use Rattle.std.specs.Prelude.{[], IfOk, OnErr, string_bytes};
+    ghost use Rattle.std.specs.Prelude.{[], IfOk, OnErr, OnOk, string_bytes};
     ghost use Rattle.span_core.specs.Span.{number_of};
-    ghost use Rattle.span_stream.specs.Json.{clock_of, known_of, style_of};
+    ghost use Rattle.span_fmt.specs.Known.{nothing_known, with_text};
+    ghost use Rattle.span_stream.specs.Json.{clock_of, known_of, names_of, style_of};
     ghost use Rattle.span_stream.specs.Members.{nothing_kept, with_members};
     ghost use Rattle.span_stream.specs.Values.{with_values};
 
-    /// The lines of a form that knows no span's values, with times by this clock, in this style.
+    /// The lines of a form that knows no span's values and no lane's name, with times by this
+    /// clock, in this style.
     pub fn new(alloc: Global, clock: C, style: TimeStyle) -> JsonForm<C>
         ensures known { known_of result ≡ nothing_kept }
         ensures clock { clock_of result ≡ clock }
         ensures style { style_of result ≡ style }
+        ensures names { names_of result ≡ nothing_known }
     {
         JsonForm {
             alloc,
             clock,
             style,
             members: Members::new(alloc),
+            names: LaneNames::new(alloc),
         }
+    }
+
+    /// Gives a lane a name, which lines of its events say beside its number; an empty one is none.
+    ///
+    /// Stands for `tracing_subscriber::fmt::format::Format::with_thread_names`.
+    pub fn name_lane(&mut self, lane: Lane, name: &str) -> Result<(), AllocError>
+        ensures named { OnOk result
+            (names_of self.new ≡ with_text lane.0 name.now (names_of self.old)) }
+        ensures unchanged { OnErr result (names_of self.new ≡ names_of self.old) }
+        ensures known { known_of self.new ≡ known_of self.old }
+        ensures clock { clock_of self.new ≡ clock_of self.old }
+        ensures style { style_of self.new ≡ style_of self.old }
+    {
+        self.names.set(self.alloc, lane, name)
     }
 
     /// Notes values that a span is given; there is no line of that.
@@ -67,6 +92,7 @@ impl<C: Now> JsonForm<C> {
             (with_values values.now (known_of self.old (number_of id))) (known_of self.old)) }
         ensures clock { clock_of self.new ≡ clock_of self.old }
         ensures style { style_of self.new ≡ style_of self.old }
+        ensures names { names_of self.new ≡ names_of self.old }
         ensures unchanged { OnErr result (known_of self.new ≡ known_of self.old) }
     {
         match self.members.add(self.alloc, id, values) {
@@ -98,7 +124,15 @@ impl<S: Subscriber, C: Now> Form<S> for JsonForm<C> {
             }
             Notice::Event(event) => {
                 let time = self.clock.now();
-                json_line(self.alloc, self.style, time, event, &self.members, ctx)
+                json_line(
+                    self.alloc,
+                    self.style,
+                    time,
+                    event,
+                    &self.members,
+                    &self.names,
+                    ctx,
+                )
             }
             _ => Ok(String::new(self.alloc)),
         }

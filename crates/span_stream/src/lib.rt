@@ -4,7 +4,9 @@
 #![tactic(auto)]
 
 mod clocks;
+mod inert;
 mod json_form;
+mod lane;
 mod line;
 mod members;
 mod object;

@@ -4,9 +4,12 @@ ghost use Rattle.serde_json.specs.View.{view};
 ghost use Rattle.span_fmt.specs.Tree.{given};
 ghost use Rattle.span_registry.specs.Context.{view_lent};
 ghost use Rattle.span_stream.specs.Json.{IsLineOf, event_object, reference_object};
+ghost use Rattle.span_stream.specs.Lane.{names_in};
 ghost use Rattle.span_stream.specs.Members.{AreFlat, members_kept};
 ghost use Rattle.span_stream.specs.Time.{IsTimeText};
 
+use crate::inert::made_inert;
+use crate::lane::LaneNames;
 use crate::members::Members;
 use crate::object::{event_object, span_object};
 use crate::time::{TimeStyle, write_time};
@@ -22,16 +25,17 @@ pub(crate) fn json_line<S: Subscriber>(
     time: u64,
     event: &Event<'_>,
     members: &Members,
+    names: &LaneNames,
     ctx: &ContextMut<'_, S>,
 ) -> Result<String, AllocError>
     requires { AreFlat (members_kept members.now) }
     ensures { IfOk result (λ line. (stamp : List ℕ) × IsTimeText style time stamp
         × IsLineOf (event_object stamp event.now (view_lent S.registry ctx.now)
-        (members_kept members.now)) (string_bytes line)) }
+        (members_kept members.now) (names_in names.now)) (string_bytes line)) }
 {
     let mut stamp = String::new(alloc);
     write_time(&mut stamp, style, time)?;
-    line_with(alloc, stamp, event, members, ctx)
+    line_with(alloc, stamp, event, members, names, ctx)
 }
 
 /// The line of an event, with the text of its time, in what a hook sees.
@@ -40,17 +44,20 @@ fn line_with<S: Subscriber>(
     stamp: String,
     event: &Event<'_>,
     members: &Members,
+    names: &LaneNames,
     ctx: &ContextMut<'_, S>,
 ) -> Result<String, AllocError>
     requires { AreFlat (members_kept members.now) }
     ensures { IfOk result (λ line. IsLineOf
         (event_object (string_bytes stamp) event.now (view_lent S.registry ctx.now)
-        (members_kept members.now)) (string_bytes line)) }
+        (members_kept members.now) (names_in names.now)) (string_bytes line)) }
 {
     let look = ctx.ctx();
     let spans = spans_around(alloc, look.event_scope(event), members)?;
-    let object = event_object(alloc, stamp, event, spans)?;
-    let mut line = object.to_string(alloc)?;
+    let lane = ctx.lane();
+    let object = event_object(alloc, stamp, event, lane, names.name(lane), spans)?;
+    let json = object.to_string(alloc)?;
+    let mut line = made_inert(alloc, json)?;
     line.push_str("\n")?;
     Ok(line)
 }

@@ -3,28 +3,31 @@ ghost use Rattle.std.specs.Prelude.{◌≡◌, IfOk, OnOk, map, string_bytes};
 ghost use Rattle.serde_json.specs.Data.{string};
 ghost use Rattle.serde_json.specs.View.{members_view, view};
 ghost use Rattle.span_core.specs.Event.{event_metadata, event_values};
-ghost use Rattle.span_stream.specs.Object.{event_data, fields_data, plain_members, span_data, with_spans};
+ghost use Rattle.span_stream.specs.Object.{event_data, fields_data, plain_members, span_data, with_lane, with_spans};
 
 use crate::values::put_values;
 use serde_json::{Map, Value, put};
-use span_core::{Event, FieldValue};
+use span_core::{Event, FieldValue, Lane};
 use std::alloc::{AllocError, Global};
 
 /// How many bytes a text has room for beyond its own. The allocator keeps a few blocks of each size
 /// at hand, and names of members take those of the smallest.
 const SPARE: usize = 32;
 
-/// The object of an event in these spans, with the text of its time.
+/// The object of an event on a lane with this name, in these spans, with the text of its time.
 pub(crate) fn event_object(
     alloc: Global,
     stamp: String,
     event: &Event<'_>,
+    lane: Lane,
+    name: &str,
     spans: Vec<Value>,
 ) -> Result<Value, AllocError>
     ensures { IfOk result (λ object. view object
-        ≡ event_data (string_bytes stamp) event.now (map view spans.items)) }
+        ≡ event_data (string_bytes stamp) event.now lane.0 name.now (map view spans.items)) }
 {
     let mut members = plain_members(alloc, stamp, event)?;
+    put_lane(&mut members, alloc, lane, name)?;
     put_spans(&mut members, alloc, spans)?;
     Ok(Value::Object(members))
 }
@@ -77,6 +80,23 @@ fn fields_of(
     put(&mut fields, alloc, "message", text_of(alloc, name)?)?;
     put_values(&mut fields, alloc, values)?;
     Ok(Value::Object(fields))
+}
+
+/// Puts a lane's number and its name into an object, if it has a name.
+fn put_lane(
+    members: &mut Map<String, Value>,
+    alloc: Global,
+    lane: Lane,
+    name: &str,
+) -> Result<(), AllocError>
+    ensures { OnOk result (members_view members.new.entries
+        ≡ with_lane lane.0 name.now (members_view members.old.entries)) }
+{
+    if name.is_empty() {
+        return Ok(());
+    }
+    put(members, alloc, "threadId", Value::from(u64::from(lane.0)))?;
+    put(members, alloc, "threadName", text_of(alloc, name)?)
 }
 
 /// Puts the last of some spans and all of them into an object, if there is one.

@@ -1,6 +1,8 @@
 //! Lines with times, in colours and in JSON: those of the worked run.
-use crate::text::{OF_EVENTS, worked_on};
-use span_core::LevelFilter;
+use crate::fixture::in_use;
+use crate::text::{LANE, OF_EVENTS, OTHER_LANE, site, worked_on};
+use span_core::{FieldValue, Kind, Level, LevelFilter};
+use span_dispatch::{Request, WhichParent};
 use span_fmt::{Form, LinesForm, Stream};
 use span_layers::Observer;
 use span_registry::Registry;
@@ -150,5 +152,72 @@ fn lines_of_json(rt: HostRuntime) -> Result<(), Fail> {
     let form = JsonForm::new(rt.alloc(), Counted::new(), TimeStyle::Utc);
     let lines = written(rt.alloc(), form)?;
     assert!(rt; lines.as_slice() == IN_JSON.as_bytes());
+    Ok(())
+}
+
+const WITH_A_NAME: &str =
+    r#"{"fields":{"message":"said","ok":true,"what":"a\nb"},"level":"WARN","span":{"name":"inner","try":-2},"spans":[{"name":"outer","user":7},{"name":"inner","try":-2}],"target":"app::net","timestamp":"1970-01-01T00:00:00.000001Z"}
+{"fields":{"message":"heard"},"level":"INFO","target":"app","threadId":3,"threadName":"worker-3","timestamp":"1970-01-01T00:00:00.000002Z"}
+{"fields":{"message":"heard"},"level":"INFO","span":{"late":false,"name":"outer","user":7},"spans":[{"late":false,"name":"outer","user":7}],"target":"app","timestamp":"1970-01-01T00:00:00.000003Z"}
+"#;
+
+#[test]
+fn lines_of_json_name_lanes(rt: HostRuntime) -> Result<(), Fail> {
+    let mut form = JsonForm::new(rt.alloc(), Counted::new(), TimeStyle::Utc);
+    form.name_lane(OTHER_LANE, "worker-3")?;
+    let lines = written(rt.alloc(), form)?;
+    assert!(rt; lines.as_slice() == WITH_A_NAME.as_bytes());
+    Ok(())
+}
+
+/// Texts that act on a terminal, or would read as another line, and some that don't.
+const ACTING: &[(&str, FieldValue<'static>)] = &[
+    (
+        "control",
+        FieldValue::Text("\u{1b}[2J\u{7f}\u{85}\u{9b}2J\u{9f}"),
+    ),
+    ("line", FieldValue::Text("a\u{2028}b\u{2029}c\u{2027}d")),
+    (
+        "plain",
+        FieldValue::Text("~\u{a0}\u{e9}\u{2030}\u{1f600}\\"),
+    ),
+    (
+        "turned",
+        FieldValue::Text("\u{61c}\u{200e}\u{200f}\u{202a}\u{202e}\u{2066}\u{2069}"),
+    ),
+];
+
+/// Escapes as RFC 8259 spells them.
+const ESCAPED: &str = concat!(
+    r#"{"fields":{"control":"\u001b[2J\u007f\u0085\u009b2J\u009f","#,
+    r#""line":"a\u2028b\u2029c"#,
+    "\u{2027}d\",\"message\":\"said\",\"plain\":\"~\u{a0}\u{e9}\u{2030}\u{1f600}",
+    r#"\\","turned":"\u061c\u200e\u200f\u202a\u202e\u2066\u2069"},"#,
+    r#""level":"WARN","target":"app","timestamp":"1970-01-01T00:00:00.000001Z"}"#,
+    "\n"
+);
+
+/// What a form writes of one event with such texts.
+fn written_of_acting<F: Form<Registry> + Drop>(alloc: Global, form: F) -> Result<Vec<u8>, Fail> {
+    let bytes: Vec<u8> = Vec::new(alloc);
+    let layer = Observer::new(Stream::new(form, bytes));
+    let mut dispatch = in_use(alloc, Registry::new(alloc), layer)?;
+    let said = Request::Event {
+        lane: LANE,
+        metadata: site(4, "said", "app", Level::WARN, Kind::EVENT),
+        parent: WhichParent::Root,
+        values: ACTING,
+    };
+    dispatch.serve(alloc, &[said])?;
+    let mut copy = Vec::new(alloc);
+    copy.extend_from_slice(dispatch.stack().outer().observer().writer())?;
+    Ok(copy)
+}
+
+#[test]
+fn lines_of_json_act_on_no_terminal(rt: HostRuntime) -> Result<(), Fail> {
+    let form = JsonForm::new(rt.alloc(), Counted::new(), TimeStyle::Utc);
+    let lines = written_of_acting(rt.alloc(), form)?;
+    assert!(rt; lines.as_slice() == ESCAPED.as_bytes());
     Ok(())
 }

@@ -8,7 +8,7 @@ use Rattle.span_registry.specs.declared.notice.Notice.{Notice as NoticeInCode}
 use Rattle.span_stream.proofs.Given.{event_given, span_given}
 use Rattle.span_stream.proofs.Lined.{object_plainly, with_flat}
 use Rattle.span_fmt.specs.Form.{plainly_lent}
-use Rattle.span_stream.specs.Json.{json_gives, known_of}
+use Rattle.span_stream.specs.Json.{json_gives, known_of, names_of}
 use Rattle.span_stream.specs.Members.{AreFlat}
 use Rattle.span_stream.proofs.json_form.JsonFormForm.line.Goals as goal
 
@@ -26,7 +26,7 @@ returns-in-NewSpan-clause-given g c =
     let noted = c.note.ensures in
     subst (λ (n : NoticeInCode). IfOk c.note.result (λ line. gives x (notice_of n) v (string_bytes line) y)) (sym c.in-NewSpan.is)
     (span_given g.C.Now.latest g.C.Now.gives
-    x y v c.note.result c.in-NewSpan.attrs.now c.in-NewSpan.id c.values.result.now c.values.ensures noted.line noted.noted noted.clock noted.style)
+    x y v c.note.result c.in-NewSpan.attrs.now c.in-NewSpan.id c.values.result.now c.values.ensures noted.line noted.noted noted.clock noted.style noted.names)
 
 pub returns-in-Event-clause-given : goal.returns-in-Event-clause-given
 returns-in-Event-clause-given g c =
@@ -41,4 +41,5 @@ returns-in-Event-clause-given g c =
     let law = c.extensions_change_no_look_up.ensures s (lane_lent ctx).0 (filters_lent ctx) in
     subst (λ (n : NoticeInCode). IfOk c.json_line.result (λ line. gives x (notice_of n) v (string_bytes line) y)) (sym c.in-Event.is)
     (event_given g.C.Now.latest g.C.Now.gives x y v c.json_line.result e (view_lent registry ctx) c.now-time.result
-    (λ stamp. object_plainly s (lane_lent ctx).0 (filters_lent ctx) law stamp e (known_of x)) c.now-time.ensures refl refl c.json_line.ensures)
+    (λ stamp. object_plainly s (lane_lent ctx).0 (filters_lent ctx) law stamp e (known_of x) (names_of x)) c.now-time.ensures
+    refl refl refl c.json_line.ensures)
