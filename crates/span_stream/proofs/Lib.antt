@@ -1,6 +1,7 @@
 mod Characters
 mod Coloured
 mod Given
+mod Holding
 mod Lined
 mod Numbers
 mod Shallow

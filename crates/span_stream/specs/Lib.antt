@@ -1,4 +1,5 @@
 pub mod Clocks
+pub mod Held
 pub mod Inert
 pub mod Json
 pub mod Lane

@@ -1,11 +1,10 @@
 -- The values that spans were given, as members of objects in JSON.
-use Rattle.std.specs.Prelude.{◌≤◌, ℕ, ◌==◌, if◌then◌else◌, unwrap_or}
+use Rattle.std.specs.Prelude.{◌≤◌, ℕ, ◌==◌, if◌then◌else◌}
 use Rattle.std.specs.BTreeMap as tree
 use Rattle.std.specs.Option.{option_map_or}
 use Rattle.std.specs.Ordering.{nat_cmp}
-use Rattle.serde_json.specs.Data.{Data, Members as MembersOf, members_depth, no_members}
-use Rattle.serde_json.specs.Find.{as_object}
-use Rattle.serde_json.specs.View.{view}
+use Rattle.serde_json.specs.Data.{Members as MembersOf, members_depth, no_members}
+use Rattle.span_stream.specs.Held.{members_held}
 use Rattle.span_stream.specs.declared.members.Members.{Members}
 
 -- by a span's number the values that the span was given
@@ -24,11 +23,7 @@ AreFlat kept = (n : ℕ) → members_depth (kept n) ≤ 0
 abbrev pub with_members : ℕ → MembersOf → SpanMembers → SpanMembers
 with_members x ms kept n = if x == n then ms else kept n
 
--- the members of an object, and none of all else
-abbrev pub members_in : Data → MembersOf
-members_in d = unwrap_or (as_object d) no_members
-
 -- the values that are kept of spans
 abbrev pub members_kept : Members → SpanMembers
 members_kept x n =
-    option_map_or (λ v. members_in (view v)) (tree.get nat_cmp x.kept n) no_members
+    option_map_or members_held (tree.get nat_cmp x.kept n) no_members

@@ -4,6 +4,7 @@
 #![tactic(auto)]
 
 mod clocks;
+mod held;
 mod inert;
 mod json_form;
 mod lane;

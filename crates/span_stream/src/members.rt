@@ -6,16 +6,16 @@ ghost use Rattle.span_core.specs.Span.{number_of};
 ghost use Rattle.span_stream.specs.Members.{members_kept, nothing_kept, with_members};
 ghost use Rattle.span_stream.specs.Values.{with_values};
 
-use crate::values::put_values;
+use crate::held::{Held, waiting_of};
 use serde_json::{Map, Value};
 use span_core::{FieldValue, Id};
 use std::alloc::{AllocError, Global};
 use std::collections::BTreeMap;
 
-/// The values that spans were given, as members of an object, by the spans' numbers.
+/// The values that spans were given, by the spans' numbers.
 #[derive(Drop)]
 pub(crate) struct Members {
-    kept: BTreeMap<u64, Value>,
+    kept: BTreeMap<u64, Held>,
 }
 
 impl Members {
@@ -36,10 +36,7 @@ impl Members {
         let Some(kept) = self.kept.get(&id.into_u64()) else {
             return Ok(Map::new(alloc));
         };
-        match kept.clone()? {
-            Value::Object(members) => Ok(members),
-            _ => Ok(Map::new(alloc)),
-        }
+        kept.members(alloc)
     }
 
     /// Adds values of a span to what is known.
@@ -54,9 +51,11 @@ impl Members {
             (members_kept self.old)) }
         ensures unchanged { OnErr result (members_kept self.new ≡ members_kept self.old) }
     {
-        let mut members = self.of(alloc, id)?;
-        put_values(&mut members, alloc, values)?;
-        match self.kept.insert(id.into_u64(), Value::Object(members)) {
+        let waiting = waiting_of(alloc, values)?;
+        if let Some(held) = self.kept.get_mut(&id.into_u64()) {
+            return held.add(waiting);
+        }
+        match self.kept.insert(id.into_u64(), Held::new(alloc, waiting)) {
             Ok(_) => Ok(()),
             Err(_) => Err(AllocError),
         }
