@@ -53,9 +53,9 @@ pub(crate) fn write_character(text: &mut String, character: char) -> Result<(), 
     Ok(())
 }
 
-/// Whether a character is escaped: a backslash, a control character, a separator of lines or
-/// paragraphs, or what turns the direction of writing.
-pub(crate) fn is_escaped(character: char) -> bool
+/// Whether `write_escaped` escapes a character: a backslash, a control character, a separator of
+/// lines or paragraphs, or what turns the direction of writing.
+pub fn is_escaped(character: char) -> bool
     ensures { result ≡ is_escaped character }
 {
     match character {

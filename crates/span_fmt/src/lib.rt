@@ -20,7 +20,7 @@ mod serve;
 mod stream;
 mod tree;
 
-pub use escape::write_escaped;
+pub use escape::{is_escaped, write_escaped};
 pub use fields::{write_fields, write_value};
 pub use form::Form;
 pub use forms::{LinesForm, TreeForm};

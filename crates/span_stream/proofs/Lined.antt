@@ -23,7 +23,7 @@ use Rattle.span_stream.proofs.Tokens.{inert_is, inert_means}
 use Rattle.span_stream.proofs.Shallow.{all_shallow, event_depth, one_flat, span_depth, values_flat}
 use Rattle.span_stream.specs.Inert.{inert}
 use Rattle.span_stream.specs.Json.{IsLineOf, event_object, objects_around, reference_object, seen_object}
-use Rattle.span_stream.specs.Lane.{LaneTexts}
+use Rattle.span_fmt.specs.Lane.{Naming}
 use Rattle.span_stream.specs.Members.{AreFlat, SpanMembers, with_members}
 use Rattle.span_stream.specs.Object.{event_data, span_data}
 use Rattle.span_fmt.specs.Tree.{given, spans_round}
@@ -63,7 +63,7 @@ objects_found {S} registry c look e found known l h =
 
 -- extensions make no difference to them
 pub object_plainly : (s : Store) (lane : ℕ) (mask : FilterSet)
-    → ShowsPlainly s lane mask → (stamp : List ℕ) (e : Event) (known : SpanMembers) (names : LaneTexts)
+    → ShowsPlainly s lane mask → (stamp : List ℕ) (e : Event) (known : SpanMembers) (names : Naming)
     → event_object stamp e (view_of s lane mask) known names ≡ event_object stamp e (plain_view s lane mask) known names
 object_plainly s lane mask law stamp e known names =
     λ i. event_data stamp e lane (names lane) (map (λ x. span_data (name_plainly s lane mask x i) (known x)) (reverse (round_plainly s lane mask law e i)))
@@ -71,7 +71,7 @@ object_plainly s lane mask law stamp e known names =
 -- ---- the line of an event
 
 -- an object of an event is shallow, so its text reads back, and is made inert
-pub line_made : (stamp : List ℕ) (e : Event) (v : View) (known : SpanMembers) (names : LaneTexts) (text line : List ℕ) (made : Data)
+pub line_made : (stamp : List ℕ) (e : Event) (v : View) (known : SpanMembers) (names : Naming) (text line : List ℕ) (made : Data)
     → AreFlat known → made ≡ event_object stamp e v known names → (depth made ≤ max_depth → read text ≡ Some made)
     → text ≡ print (tokens text) → IsUtf8 text → line ≡ inert text ++ codes "\n" → IsLineOf (event_object stamp e v known names) line
 line_made stamp e v known names text line made flat is reads compact utf8 grown =

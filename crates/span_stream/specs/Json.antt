@@ -10,12 +10,12 @@ use Rattle.span_core.specs.Metadata.{name_of}
 use Rattle.span_core.specs.Span.{number_of, recorded_values, values_of}
 use Rattle.span_core.specs.declared.event.Event.{Event}
 use Rattle.span_fmt.specs.Form.{FormMisses, FormSteps}
+use Rattle.span_fmt.specs.Lane.{Naming, names_in}
 use Rattle.span_fmt.specs.Tree.{spans_round}
 use Rattle.span_registry.specs.Behaviour.{Notice, OnClose, OnEvent, OnNewSpan, OnRecord}
 use Rattle.span_registry.specs.References.{Reference}
 use Rattle.span_registry.specs.View.{View}
 use Rattle.span_stream.specs.Inert.{IsInert, inert}
-use Rattle.span_stream.specs.Lane.{LaneTexts, names_in}
 use Rattle.span_stream.specs.Members.{SpanMembers, members_kept, with_members}
 use Rattle.span_stream.specs.Object.{event_data, span_data}
 use Rattle.span_stream.specs.Time.{IsTimeText}
@@ -54,7 +54,7 @@ abbrev pub objects_around : Event → View → SpanMembers → List Data
 objects_around e v known = map (seen_object v known) (reverse (spans_round e v))
 
 -- the object of an event, with the lane and the spans round it that a view shows
-abbrev pub event_object : List ℕ → Event → View → SpanMembers → LaneTexts → Data
+abbrev pub event_object : List ℕ → Event → View → SpanMembers → Naming → Data
 event_object stamp e v known names =
     event_data stamp e v.lane (names v.lane) (objects_around e v known)
 
@@ -71,7 +71,7 @@ module _ {C : Type 0} where
   known_of x = members_kept x.members
 
   -- the names that a form of JSON has for lanes
-  abbrev pub names_of : JsonForm C → LaneTexts
+  abbrev pub names_of : JsonForm C → Naming
   names_of x = names_in x.names
 
   -- its clock

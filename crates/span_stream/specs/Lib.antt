@@ -2,7 +2,6 @@ pub mod Clocks
 pub mod Held
 pub mod Inert
 pub mod Json
-pub mod Lane
 pub mod Members
 pub mod Object
 pub mod Painted

@@ -5,6 +5,7 @@ ghost use Rattle.std.specs.Str.{encode_utf8_all};
 ghost use Rattle.span_fmt.specs.Escape.{is_among};
 ghost use Rattle.span_stream.specs.Inert.{inert, inertly, may_act, unicode_escape};
 
+use span_fmt::is_escaped;
 use std::alloc::{AllocError, Global};
 
 /// How many bytes an escape takes.
@@ -42,15 +43,7 @@ fn is_printable(byte: u8) -> bool
 fn may_act(character: char) -> bool
     ensures { result ≡ may_act character }
 {
-    match character {
-        '\u{0}'..='\u{1F}'
-        | '\u{7F}'..='\u{9F}'
-        | '\u{61C}'
-        | '\u{200E}'..='\u{200F}'
-        | '\u{2028}'..='\u{202E}'
-        | '\u{2066}'..='\u{2069}' => true,
-        _ => false,
-    }
+    is_escaped(character) && character != '\\'
 }
 
 /// Writes a text, and escapes what may act on a terminal.

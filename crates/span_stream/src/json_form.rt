@@ -2,12 +2,11 @@
 ghost use Rattle.std.specs.Prelude.{◌≡◌, ℕ};
 ghost use Rattle.span_stream.specs.Members.{AreFlat, members_kept};
 
-use crate::lane::LaneNames;
 use crate::line::json_line;
 use crate::members::Members;
 use crate::time::TimeStyle;
 use span_core::{Event, FieldValue, Id, Lane};
-use span_fmt::Form;
+use span_fmt::{Form, LaneNames};
 use span_registry::{ContextMut, Notice, Subscriber, laws};
 use span_times::Now;
 use std::alloc::{AllocError, Global};

@@ -7,7 +7,6 @@ mod clocks;
 mod held;
 mod inert;
 mod json_form;
-mod lane;
 mod line;
 mod members;
 mod object;

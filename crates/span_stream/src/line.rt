@@ -1,20 +1,20 @@
 //! The line of an event in JSON.
 ghost use Rattle.std.specs.Prelude.{◌≡◌, ℕ, List, IfOk, map, reverse, string_bytes};
 ghost use Rattle.serde_json.specs.View.{view};
+ghost use Rattle.span_fmt.specs.Lane.{names_in};
 ghost use Rattle.span_fmt.specs.Tree.{given};
 ghost use Rattle.span_registry.specs.Context.{view_lent};
 ghost use Rattle.span_stream.specs.Json.{IsLineOf, event_object, reference_object};
-ghost use Rattle.span_stream.specs.Lane.{names_in};
 ghost use Rattle.span_stream.specs.Members.{AreFlat, members_kept};
 ghost use Rattle.span_stream.specs.Time.{IsTimeText};
 
 use crate::inert::made_inert;
-use crate::lane::LaneNames;
 use crate::members::Members;
 use crate::object::{event_object, span_object};
 use crate::time::{TimeStyle, write_time};
 use serde_json::Value;
 use span_core::Event;
+use span_fmt::LaneNames;
 use span_registry::{ContextMut, LookupSpan, Scope, Subscriber};
 use std::alloc::{AllocError, Global};
 

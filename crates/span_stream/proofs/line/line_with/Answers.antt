@@ -6,7 +6,7 @@ use Rattle.span_core.specs.declared.span.Lane.{Lane}
 use Rattle.span_registry.specs.Context.{view_lent}
 use Rattle.span_stream.proofs.Lined.{line_made, objects_found}
 use Rattle.span_stream.specs.Json.{event_object}
-use Rattle.span_stream.specs.Lane.{names_in}
+use Rattle.span_fmt.specs.Lane.{names_in}
 use Rattle.span_stream.specs.Members.{members_kept}
 use Rattle.span_stream.specs.Object.{event_data}
 use Rattle.span_stream.proofs.line.line_with.Goals as goal
