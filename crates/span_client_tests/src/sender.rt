@@ -29,6 +29,7 @@ fn status(code: u16) -> Answer {
     Answer::Status {
         code,
         retry_after: None,
+        rejected: 0,
     }
 }
 
@@ -92,6 +93,7 @@ fn seconds_that_are_asked_for_win(rt: HostRuntime) -> Result<(), Fail> {
     let answer = Answer::Status {
         code: 503,
         retry_after: Some(2),
+        rejected: 0,
     };
     assert!(rt; matches!(batches.answered(answer, 1), Fate::Kept));
     assert!(rt; matches!(batches.next(2), Action::Until(2_000_000_001)));
@@ -112,6 +114,28 @@ fn what_is_no_fault_of_the_moment_is_refused(rt: HostRuntime) -> Result<(), Fail
         assert!(rt; matches!(batches.answered(status(code), 0), Fate::Refused));
     }
     assert!(rt; batches.counts().refused == 4);
+    assert!(rt; batches.is_empty());
+    Ok(())
+}
+
+#[test]
+fn rejected_spans_are_refused(rt: HostRuntime) -> Result<(), Fail> {
+    let alloc = rt.alloc();
+    let mut batches = Batches::new(alloc, SMALL)?;
+    for rejected in [1, 3] {
+        assert!(rt; push(alloc, &mut batches, "a")?);
+        assert!(rt; push(alloc, &mut batches, "b")?);
+        assert!(rt; matches!(batches.next(0), Action::Post));
+        let answer = Answer::Status {
+            code: 200,
+            retry_after: None,
+            rejected,
+        };
+        assert!(rt; matches!(batches.answered(answer, 0), Fate::Accepted));
+    }
+    // One of two, and then no more than there were.
+    assert!(rt; batches.counts().accepted == 1);
+    assert!(rt; batches.counts().refused == 3);
     assert!(rt; batches.is_empty());
     Ok(())
 }
@@ -346,22 +370,44 @@ impl Connect for Lines {
     }
 }
 
-/// Posts a body of two bytes to who answers so. Gives what came, and how much was written.
-fn post_to(alloc: Global, answer: Option<&'static [u8]>) -> Result<(Answer, u64), Fail> {
+/// What came of a body of two bytes that was posted to who answers so.
+#[derive(Drop)]
+struct Came {
+    answer: Answer,
+    /// How many bytes were written.
+    written: u64,
+    /// What the collector said of spans that it rejected.
+    message: Option<String>,
+}
+
+/// Posts a body of two bytes to who answers so.
+fn post_to(alloc: Global, answer: Option<&'static [u8]>) -> Result<Came, Fail> {
     let written = Arc::new(alloc, AtomicU64::new(0))?;
     let lines = Lines {
         answer,
         written: Arc::try_clone(&written)?,
     };
     let mut poster = HttpPoster::new(alloc, lines, String::from_str(alloc, "localhost:4318")?);
-    let came = poster.post(b"{}");
-    Ok((came, written.load(Ordering::SeqCst)))
+    let answer = poster.post(b"{}");
+    let message = match poster.message() {
+        Some(message) => Some(String::from_str(alloc, message)?),
+        None => None,
+    };
+    Ok(Came {
+        answer,
+        written: written.load(Ordering::SeqCst),
+        message,
+    })
 }
 
-/// The status of an answer, and the seconds that it asks for.
-fn parts(answer: Answer) -> Option<(u16, Option<u64>)> {
-    match answer {
-        Answer::Status { code, retry_after } => Some((code, retry_after)),
+/// The status of what came, and the seconds that it asks for.
+fn head_of(came: &Came) -> Option<(u16, Option<u64>)> {
+    match came.answer {
+        Answer::Status {
+            code,
+            retry_after,
+            ..
+        } => Some((code, retry_after)),
         Answer::Failed => None,
     }
 }
@@ -369,19 +415,53 @@ fn parts(answer: Answer) -> Option<(u16, Option<u64>)> {
 #[test]
 fn answers_are_read(rt: HostRuntime) -> Result<(), Fail> {
     let alloc = rt.alloc();
-    let (came, written) = post_to(alloc, Some(b"HTTP/1.1 200 OK\r\n\r\n{}"))?;
-    assert!(rt; parts(came) == Some((200, None)));
+    let came = post_to(alloc, Some(b"HTTP/1.1 200 OK\r\n\r\n{}"))?;
+    assert!(rt; head_of(&came) == Some((200, None)));
     // The head has 26 bytes in its line, 22, 32, 19 and 19 in its fields, and 2; the body 2.
-    assert!(rt; written == 122);
+    assert!(rt; came.written == 122);
     let busy = b"HTTP/1.1 503 Busy\r\nX: 1\r\nretry-AFTER: 12 \r\n\r\n";
-    assert!(rt; parts(post_to(alloc, Some(busy))?.0) == Some((503, Some(12))));
+    assert!(rt; head_of(&post_to(alloc, Some(busy))?) == Some((503, Some(12))));
     let dated = b"HTTP/1.1 429 Slow\r\nRetry-After: Fri, 31 Dec 1999 23:59:59 GMT\r\n\r\n";
-    assert!(rt; parts(post_to(alloc, Some(dated))?.0) == Some((429, None)));
+    assert!(rt; head_of(&post_to(alloc, Some(dated))?) == Some((429, None)));
     let signed = b"HTTP/1.1 429 Slow\r\nRetry-After: +5\r\n\r\n";
-    assert!(rt; parts(post_to(alloc, Some(signed))?.0) == Some((429, None)));
-    assert!(rt; parts(post_to(alloc, Some(b"HTTP/1.1 200 OK\r\nCut"))?.0) == None);
-    assert!(rt; parts(post_to(alloc, Some(b"SSH-2.0\r\n\r\n"))?.0) == None);
-    assert!(rt; parts(post_to(alloc, Some(b""))?.0) == None);
-    assert!(rt; parts(post_to(alloc, None)?.0) == None);
+    assert!(rt; head_of(&post_to(alloc, Some(signed))?) == Some((429, None)));
+    assert!(rt; head_of(&post_to(alloc, Some(b"HTTP/1.1 200 OK\r\nCut"))?) == None);
+    assert!(rt; head_of(&post_to(alloc, Some(b"SSH-2.0\r\n\r\n"))?) == None);
+    assert!(rt; head_of(&post_to(alloc, Some(b""))?) == None);
+    assert!(rt; head_of(&post_to(alloc, None)?) == None);
+    Ok(())
+}
+
+/// How many spans an answer says were rejected.
+fn rejected_in(alloc: Global, answer: &'static [u8]) -> Result<u64, Fail> {
+    Ok(post_to(alloc, Some(answer))?.answer.rejected())
+}
+
+#[test]
+fn partial_successes_are_read(rt: HostRuntime) -> Result<(), Fail> {
+    let alloc = rt.alloc();
+    let said =
+        b"HTTP/1.1 200 OK\r\nContent-Length: 61\r\n\r\n{\"partialSuccess\":{\"rejectedSpans\":\"3\",\"errorMessage\":\"old\"}}";
+    let came = post_to(alloc, Some(said))?;
+    assert!(rt; head_of(&came) == Some((200, None)));
+    assert!(rt; came.answer.rejected() == 3);
+    assert!(rt; matches!(&came.message, Some(message) if message.as_str() == "old"));
+    // As a number, in a body that goes on until the connection ends.
+    let number = b"HTTP/1.1 200 OK\r\n\r\n{\"partialSuccess\":{\"rejectedSpans\":70000}}";
+    assert!(rt; rejected_in(alloc, number)? == 70_000);
+    // What is behind the body's length isn't of the body.
+    let long =
+        b"HTTP/1.1 200 OK\r\nContent-Length: 2\r\n\r\n{}{\"partialSuccess\":{\"rejectedSpans\":1}}";
+    assert!(rt; rejected_in(alloc, long)? == 0);
+    let cut =
+        b"HTTP/1.1 200 OK\r\nContent-Length: 90\r\n\r\n{\"partialSuccess\":{\"rejectedSpans\":1}";
+    assert!(rt; rejected_in(alloc, cut)? == 0);
+    let negative = b"HTTP/1.1 200 OK\r\n\r\n{\"partialSuccess\":{\"rejectedSpans\":-1}}";
+    assert!(rt; rejected_in(alloc, negative)? == 0);
+    let large =
+        b"HTTP/1.1 200 OK\r\n\r\n{\"partialSuccess\":{\"rejectedSpans\":\"9223372036854775808\"}}";
+    assert!(rt; rejected_in(alloc, large)? == 0);
+    assert!(rt; rejected_in(alloc, b"HTTP/1.1 200 OK\r\n\r\n{\"partialSuccess\":{}}")? == 0);
+    assert!(rt; rejected_in(alloc, b"HTTP/1.1 200 OK\r\n\r\nrejected")? == 0);
     Ok(())
 }

@@ -12,14 +12,24 @@ use Rattle.span_sender.specs.declared.config.RetryPolicy.{RetryPolicy}
 abbrev pub capped : ℕ → ℕ
 capped n = min n (2 ^ 64 - 1)
 
--- the spans were taken: a status of success came
+-- a status of success
+abbrev pub is_success : ℕ → Bool
+is_success code = nat_le 200 code && nat_le code 299
+
+-- the spans were taken, but those that were rejected: a status of success came
 abbrev pub is_accepted : Answer → Bool
-is_accepted (Status code after) = nat_le 200 code && nat_le code 299
+is_accepted (Status code after rejected) = is_success code
 is_accepted Failed = false
+
+-- how many spans were rejected
+abbrev pub rejected_by : Answer → ℕ
+rejected_by (Status code after rejected) = rejected
+rejected_by Failed = 0
 
 -- OTLP has the request posted again: after these statuses, and where the connection failed
 abbrev pub is_retried : Answer → Bool
-is_retried (Status code after) = code == 429 || (code == 502 || (code == 503 || code == 504))
+is_retried (Status code after rejected) =
+    code == 429 || (code == 502 || (code == 503 || code == 504))
 is_retried Failed = true
 
 -- what becomes of a batch of which so many tries have failed before
@@ -36,7 +46,7 @@ backoff policy failed = min (policy.initial_backoff * 2 ^ failed) policy.max_bac
 
 -- how long to wait after an answer, in nanoseconds: the seconds that it asks for, else the backoff
 abbrev pub wait_after : RetryPolicy → ℕ → Answer → ℕ
-wait_after policy failed (Status code (Some seconds)) = capped (seconds * 1000000000)
+wait_after policy failed (Status code (Some seconds) rejected) = capped (seconds * 1000000000)
 wait_after policy failed answer = backoff policy failed
 
 -- a request is to be posted

@@ -1,7 +1,7 @@
 -- What a queue of spans shows, and what is to be done with it.
-use Rattle.std.specs.Prelude.{◌≡◌, ℕ, ◌+◌, ◌<◌, ◌==◌, ◌&&◌, ◌||◌, nat_le, min, Bool, if◌then◌else◌, List, [], ◌∷◌, ◌++◌, String, length, take}
+use Rattle.std.specs.Prelude.{◌≡◌, ℕ, ◌+◌, ◌-◌, ◌<◌, ◌==◌, ◌&&◌, ◌||◌, nat_le, min, Bool, if◌then◌else◌, List, [], ◌∷◌, ◌++◌, String, length, take}
 use Rattle.std.specs.declared.alloc.Global.{Global}
-use Rattle.span_sender.specs.Answer.{capped, wait_after}
+use Rattle.span_sender.specs.Answer.{capped, rejected_by, wait_after}
 use Rattle.span_sender.specs.declared.answer.Answer.{Answer}
 use Rattle.span_sender.specs.declared.answer.Fate.TheVariants.{Accepted, Kept, Refused}
 use Rattle.span_sender.specs.declared.answer.Fate.{Fate}
@@ -111,13 +111,13 @@ pub record Ends (old new : Batches) (counts : Counts) (now : ℕ) : Type 0 where
   pub due : due_at new ≡ capped (now + (config_of old).scheduled_delay)
   pub counts_now : counts_of new ≡ counts
 
--- so many more were accepted
-abbrev pub with_accepted : Counts → ℕ → Counts
-with_accepted counts n = record counts { accepted = capped (counts.accepted + n) }
-
--- so many more were refused
-abbrev pub with_refused : Counts → ℕ → Counts
-with_refused counts n = record counts { refused = capped (counts.refused + n) }
+-- so many more have ended, of which so many were refused, or all, and the others accepted
+abbrev pub with_ended : Counts → ℕ → ℕ → Counts
+with_ended counts n refused =
+    record counts {
+      accepted = capped (counts.accepted + (n - refused));
+      refused = capped (counts.refused + min refused n);
+    }
 
 -- so many more were dropped
 abbrev pub with_dropped : Counts → ℕ → Counts
@@ -127,12 +127,12 @@ with_dropped counts n = record counts { dropped = capped (counts.dropped + n) }
 abbrev pub with_pushed : Counts → Counts
 with_pushed counts = record counts { pushed = capped (counts.pushed + 1) }
 
--- what becomes of a batch by an answer
+-- what becomes of a batch by an answer: accepted but for what that rejects, refused, or kept
 abbrev pub Answered : Fate → Batches → Batches → Answer → ℕ → Type 0
 Answered Accepted old new answer now =
-    Ends old new (with_accepted (counts_of old) (length (batch_of old))) now
+    Ends old new (with_ended (counts_of old) (length (batch_of old)) (rejected_by answer)) now
 Answered Refused old new answer now =
-    Ends old new (with_refused (counts_of old) (length (batch_of old))) now
+    Ends old new (with_ended (counts_of old) (length (batch_of old)) (length (batch_of old))) now
 Answered Kept old new answer now = WaitsAgain old new answer now
 
 -- all that was held is dropped and counted

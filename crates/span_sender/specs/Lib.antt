@@ -5,6 +5,8 @@ pub mod Config
 pub mod Guard
 pub mod Http
 pub mod Post
+pub mod Reply
 pub mod Run
 pub mod Sender
 pub mod Worker
+pub mod private

@@ -1,7 +1,7 @@
 -- What a program may do with a queue of spans, and what came of the spans.
-use Rattle.std.specs.Prelude.{◌≡◌, ℕ, List, [], ◌∷◌, ◌++◌, String, flat_map, length, sum_by}
+use Rattle.std.specs.Prelude.{◌≡◌, ℕ, ◌+◌, ◌-◌, min, List, [], ◌∷◌, ◌++◌, String, flat_map, length, sum_by}
 use Rattle.std.specs.declared.alloc.Global.{Global}
-use Rattle.span_sender.specs.Answer.{capped, fate_of}
+use Rattle.span_sender.specs.Answer.{capped, fate_of, rejected_by}
 use Rattle.span_sender.specs.Batches.{Answered, GivesUp, HoldsSame, Takes, action_at, batch_of, config_of, counts_of, failed_tries, held_by, posted_by, sending, with_dropped, with_pushed}
 use Rattle.span_sender.specs.Body.{body_of}
 use Rattle.span_sender.specs.Post.{Grows, Posts}
@@ -50,15 +50,16 @@ abbrev pub took : Event → List (String Global)
 took (Took span) = span ∷ []
 took other = []
 
--- the spans of a batch that the collector accepted
-abbrev pub accepted_by : Event → List (String Global)
-accepted_by (Tried batch answer Accepted now) = batch
-accepted_by other = []
+-- how many spans of a batch the collector accepted: all, but those that it rejected
+abbrev pub accepted_by : Event → ℕ
+accepted_by (Tried batch answer Accepted now) = length batch - rejected_by answer
+accepted_by other = 0
 
--- the spans of a batch that was refused
-abbrev pub refused_by : Event → List (String Global)
-refused_by (Tried batch answer Refused now) = batch
-refused_by other = []
+-- how many were refused: those rejected, or the batch
+abbrev pub refused_by : Event → ℕ
+refused_by (Tried batch answer Accepted now) = min (rejected_by answer) (length batch)
+refused_by (Tried batch answer Refused now) = length batch
+refused_by other = 0
 
 -- the spans that are held no longer
 abbrev pub let_go : Event → List (String Global)
@@ -84,12 +85,15 @@ abbrev pub posts : Event → List (List ℕ × Answer)
 posts (Tried batch answer fate now) = (body_of batch, answer) ∷ []
 posts other = []
 
--- no span is lost: what was taken is, in order, what was let go and what is held; what was let go
--- was accepted, refused or dropped, and is counted as that
+-- no span is lost: what was taken is, in order, what was let go and what is held; each that was
+-- pushed is held or was accepted, refused or dropped, once, and is counted as that
 pub record LosesNone (events : List Event) (new : Batches) : Type 0 where
   pub order : flat_map took events ≡ flat_map let_go events ++ held_by new
-  pub accepted : (counts_of new).accepted ≡ capped (length (flat_map accepted_by events))
-  pub refused : (counts_of new).refused ≡ capped (length (flat_map refused_by events))
+  pub once : sum_by pushed_by events
+      ≡ ((sum_by accepted_by events + sum_by refused_by events) + sum_by dropped_by events)
+      + length (held_by new)
+  pub accepted : (counts_of new).accepted ≡ capped (sum_by accepted_by events)
+  pub refused : (counts_of new).refused ≡ capped (sum_by refused_by events)
   pub dropped : (counts_of new).dropped ≡ capped (sum_by dropped_by events)
   pub pushed : (counts_of new).pushed ≡ capped (sum_by pushed_by events)
 

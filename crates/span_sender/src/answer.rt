@@ -1,14 +1,20 @@
 //! What comes of a request.
 ghost use Rattle.std.specs.Prelude.{◌≡◌};
-ghost use Rattle.span_sender.specs.Answer.{fate_of, is_accepted, is_retried};
+ghost use Rattle.span_sender.specs.Answer.{fate_of, is_accepted, is_retried, rejected_by};
 
 use crate::config::RetryPolicy;
 
 /// What came of a request that was posted.
 #[derive(Clone, Copy, Debug)]
 pub enum Answer {
-    /// The collector answered with a status, and maybe with the seconds after which to come again.
-    Status { code: u16, retry_after: Option<u64> },
+    /// The collector answered.
+    Status {
+        code: u16,
+        /// The seconds after which to come again, where it says these.
+        retry_after: Option<u64>,
+        /// How many of the spans it rejected, where it took the others.
+        rejected: u64,
+    },
     /// No answer came: the connection failed.
     Failed,
 }
@@ -16,7 +22,8 @@ pub enum Answer {
 /// What becomes of a batch.
 #[derive(Clone, Copy, Debug)]
 pub enum Fate {
-    /// The collector has the spans.
+    /// The collector has the spans, but those that its answer rejected: these are given up and
+    /// counted too.
     Accepted,
     /// The spans are given up and counted.
     Refused,
@@ -32,6 +39,16 @@ impl Answer {
         match self {
             Answer::Status { code, .. } => 200 <= code && code <= 299,
             Answer::Failed => false,
+        }
+    }
+
+    /// How many spans it rejected.
+    pub fn rejected(self) -> u64
+        ensures { result ≡ rejected_by self }
+    {
+        match self {
+            Answer::Status { rejected, .. } => rejected,
+            Answer::Failed => 0,
         }
     }
 

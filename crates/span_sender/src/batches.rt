@@ -13,7 +13,7 @@ pub struct Counts {
     pub pushed: u64,
     /// How many the collector has.
     pub accepted: u64,
-    /// How many it refused, or didn't take in as many tries as were granted.
+    /// How many it rejected or refused, or didn't take in as many tries as were granted.
     pub refused: u64,
     /// How many found the queue full, or were given up.
     pub dropped: u64,
@@ -51,7 +51,7 @@ pub struct Batches {
 impl Batches {
     ghost use Rattle.span_sender.specs.Post.{Posts};
     ghost use Rattle.span_sender.specs.Run.{Sends};
-    ghost use Rattle.span_sender.specs.Batches.{Answered, Ends, GivesUp, HasRoom, HoldsSame, IsAsBefore, IsNew, Takes, action_at, batch_of, config_of, counts_of, due_at, failed_tries, held_by, posted_by, sending, with_accepted, with_dropped, with_pushed, with_refused};
+    ghost use Rattle.span_sender.specs.Batches.{Answered, Ends, GivesUp, HasRoom, HoldsSame, IsAsBefore, IsNew, Takes, action_at, batch_of, config_of, counts_of, due_at, failed_tries, held_by, posted_by, sending, with_dropped, with_ended, with_pushed};
 
     /// A queue that holds nothing. It has room for all that it may hold: no other call allocates.
     pub fn new(alloc: Global, config: BatchConfig) -> Result<Batches, AllocError>
@@ -165,11 +165,11 @@ impl Batches {
         let retry = self.config.retry;
         match answer.fate(retry, self.failed) {
             Fate::Accepted => {
-                self.end(now, true);
+                self.end(now, answer.rejected());
                 Fate::Accepted
             }
             Fate::Refused => {
-                self.end(now, false);
+                self.end(now, u64::MAX);
                 Fate::Refused
             }
             Fate::Kept => {
@@ -180,19 +180,17 @@ impl Batches {
         }
     }
 
-    /// Counts the spans of the request under way, and lets them go.
-    fn end(&mut self, now: u64, is_accepted: bool)
-        ensures accepted { IsTrue is_accepted → Ends self.old self.new
-            (with_accepted (counts_of self.old) (length (batch_of self.old))) now }
-        ensures refused { IsFalse is_accepted → Ends self.old self.new
-            (with_refused (counts_of self.old) (length (batch_of self.old))) now }
+    /// Counts the spans of the request under way, so many of them or all as refused, and lets them
+    /// go.
+    fn end(&mut self, now: u64, refused: u64)
+        ensures { Ends self.old self.new
+            (with_ended (counts_of self.old) (length (batch_of self.old)) refused) now }
     {
+        let sent = self.sending as u64;
+        let refused = refused.min(sent);
         self.held.drain(..self.sending);
-        if is_accepted {
-            self.counts.accepted = self.counts.accepted.saturating_add(self.sending as u64);
-        } else {
-            self.counts.refused = self.counts.refused.saturating_add(self.sending as u64);
-        }
+        self.counts.accepted = self.counts.accepted.saturating_add(sent - refused);
+        self.counts.refused = self.counts.refused.saturating_add(refused);
         self.sending = 0;
         self.failed = 0;
         self.due = now.saturating_add(self.config.scheduled_delay);

@@ -1,0 +1,3 @@
+pub mod Head
+pub mod Number
+pub mod Partial
