@@ -1,5 +1,6 @@
 -- What holds of runs of calls.
-use Rattle.std.proofs.Common.{◌<◌, ◌^◌, ◌-◌, ℕ, min, sum_by, ◌≡◌, ◌+◌, List, [], ◌∷◌, ◌++◌, flat_map, length, refl, ap, sym, ◌∙◌, arith, append_assoc, append-nil}
+use Rattle.std.proofs.Common.{◌<◌, ◌^◌, ◌-◌, ℕ, min, sum_by, ◌≡◌, ◌+◌, List, [], ◌∷◌, ◌++◌, flat_map, length, refl, ap, sym, ◌∙◌, arith, append_assoc}
+use Rattle.std.proofs.Common.{append-nil}
 use Rattle.std.proofs.Common.{length-append}
 use Rattle.std.proofs.lemmas.List.Sums.{sum_by-cons}
 use Rattle.span_sender.specs.Answer.{capped, rejected_by}

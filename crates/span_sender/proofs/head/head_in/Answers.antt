@@ -16,7 +16,9 @@ returns-in-Ok-Complete c =
         within = w.section.len_fits;
         code = h.1.code;
         after = named (codes "retry-after") c.args.bytes.now fields fields h.0 c.number_named.result refl h.1.fields c.number_named.ensures;
-        chunks = c.is_some.ensures ∙ there (codes "transfer-encoding") c.args.bytes.now fields fields h.0 c.value_named.result refl h.1.fields c.value_named.ensures;
-        body = named (codes "content-length") c.args.bytes.now fields fields h.0 c.number_named-in-Ok-Complete.result refl h.1.fields c.number_named-in-Ok-Complete.ensures;
+        chunks =
+            c.is_some.ensures ∙ there (codes "transfer-encoding") c.args.bytes.now fields fields h.0 c.value_named.result refl h.1.fields c.value_named.ensures;
+        body = named (codes "content-length")
+            c.args.bytes.now fields fields h.0 c.number_named-in-Ok-Complete.result refl h.1.fields c.number_named-in-Ok-Complete.ensures;
       },
     )
