@@ -64,7 +64,11 @@ impl<W: Write> Collector<W> {
             0 | 5 | 6 => 503,
             _ => 200,
         };
-        Answer::Status { code, retry_after }
+        Answer::Status {
+            code,
+            retry_after,
+            rejected: 0,
+        }
     }
 }
 
