@@ -5,3 +5,4 @@ pub mod Field
 pub mod Made
 pub mod Metadata
 pub mod Span
+pub mod private

@@ -9,6 +9,7 @@ pub mod laws;
 mod levels;
 mod macros;
 mod metadata;
+mod number;
 mod parents;
 mod parts;
 mod span;

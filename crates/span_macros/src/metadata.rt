@@ -3,8 +3,8 @@ ghost use Rattle.std.specs.Prelude.{◌≡◌, codes};
 ghost use Rattle.span_core.specs.Metadata.{fields_of, kind_of, level_of, name_of, target_of};
 ghost use Rattle.span_macros.specs.Metadata.{IsNumbered};
 
+use crate::number::{first_state, state_after};
 use span_core::{FieldSet, Kind, Level, Metadata};
-use std::hash::{FoldHasher, Hasher};
 
 /// The metadata of a callsite. Its number is a hash of all else that the metadata show.
 ///
@@ -29,15 +29,15 @@ pub fn numbered_metadata(
     ensures fields { fields_of result ≡ fields }
     ensures numbered { IsNumbered result }
 {
-    let mut hasher = FoldHasher::default();
-    hasher.write(kind_text(kind).as_bytes());
-    hasher.write(level.as_str().as_bytes());
-    hasher.write(name.as_bytes());
-    hasher.write(target.as_bytes());
+    let mut state = first_state();
+    state = state_after(state, kind_text(kind).as_bytes());
+    state = state_after(state, level.as_str().as_bytes());
+    state = state_after(state, name.as_bytes());
+    state = state_after(state, target.as_bytes());
     for field in fields.names() {
-        hasher.write(field.as_bytes());
+        state = state_after(state, field.as_bytes());
     }
-    Metadata::new(hasher.finish(), name, target, level, kind, fields)
+    Metadata::new(state, name, target, level, kind, fields)
 }
 
 /// The name of a kind.
