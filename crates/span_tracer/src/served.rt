@@ -167,7 +167,8 @@ impl<S: Subscriber> Served<S> {
             calls,
         } = self;
         if let Some(known) = find(callsites, &event.metadata()) {
-            let given = dispatch.event_by(lane, known, event);
+            let own = *event; // What is lent to a call is read anew behind a lock.
+            let given = dispatch.event_by(lane, known, &own);
             *calls = counted(*calls, &given);
             return given;
         }
