@@ -88,7 +88,7 @@ impl<'a, R: Wait, S: Subscriber> Tracer<'a, R, S> {
         if self.receiver.remembers(meta) {
             return Ok(true);
         }
-        self.asks(*meta)
+        (*self).asks(*meta)
     }
 
     /// A handle of no span.
@@ -109,10 +109,11 @@ impl<'a, R: Wait, S: Subscriber> Tracer<'a, R, S> {
         self.receiver.alloc()
     }
 
-    /// Asks whether a callsite is wanted, and remembers the answer.
+    /// Asks whether a callsite is wanted, and remembers the answer. A caller's own tracer isn't
+    /// lent, and so its hint is read once.
     #[inline(never)]
-    fn asks(&self, meta: Metadata) -> Result<bool, TraceError>
-        ensures { TracesProbe S.Subscriber (tracer_lane self.now) (tracer_hint self.now) meta
+    fn asks(self, meta: Metadata) -> Result<bool, TraceError>
+        ensures { TracesProbe S.Subscriber (tracer_lane self.entry) (tracer_hint self.entry) meta
             result }
     {
         let given = self.enabled(&meta);
