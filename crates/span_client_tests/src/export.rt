@@ -39,6 +39,7 @@ fn a_trace_for_perfetto(rt: HostRuntime) -> Result<(), Fail> {
     let table = Table {
         sites: &sites,
         fields: &fields,
+        above: &[],
     };
     let text = chrome_text(alloc, &points(), table)?;
     assert!(rt; text.as_str() == TRACE);
@@ -65,6 +66,7 @@ fn events_of_a_trace_that_grows(rt: HostRuntime) -> Result<(), Fail> {
     let table = Table {
         sites: &sites,
         fields: &fields,
+        above: &[],
     };
     let events = chrome_lines(alloc, &points(), table, 1000)?;
     assert!(rt; joined(alloc, &events)?.as_str() == TRACE);
@@ -229,6 +231,7 @@ fn a_picture(rt: HostRuntime) -> Result<(), Fail> {
     let table = Table {
         sites: &sites,
         fields: &fields,
+        above: &[],
     };
     let svg = timeline_svg(alloc, &points(), table, 900)?;
     assert!(rt; svg.as_str().starts_with(HEAD));
@@ -283,6 +286,7 @@ fn a_page_is_a_picture_between_head_and_tail(rt: HostRuntime) -> Result<(), Fail
     let table = Table {
         sites: &sites,
         fields: &fields,
+        above: &[],
     };
     let page = timeline_page(alloc, &points(), table, 900)?;
     let page = page.as_str();
@@ -335,6 +339,7 @@ fn a_hostile_value_stays_a_value_in_json(rt: HostRuntime) -> Result<(), Fail> {
     let table = Table {
         sites: &sites,
         fields: &fields,
+        above: &[],
     };
     let shown = "{\"a;b\\\"\":\"\\\"<a;b>&\\\\\\n\\u0000 x}yyyy";
     let trace_text = chrome_text(alloc, &hostile_points(), table)?;
@@ -350,6 +355,7 @@ fn a_hostile_value_stays_a_value_in_text(rt: HostRuntime) -> Result<(), Fail> {
     let table = Table {
         sites: &sites,
         fields: &fields,
+        above: &[],
     };
     let stacks = folded_text(alloc, &hostile_points(), table)?;
     let shown = "outer{a\\u{3b}b\"=\"\\\"<a\\u{3b}b>&\\\\\\n\\u{0}_x}yyyy";

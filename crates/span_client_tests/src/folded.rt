@@ -41,6 +41,7 @@ fn folded(alloc: Global, points: &[Point]) -> Result<(String, String), Fail> {
     let table = Table {
         sites: &sites,
         fields: &fields,
+        above: &[],
     };
     let entered = folded_text(alloc, points, table)?;
     Ok((entered, folded_scopes(alloc, points, table)?))

@@ -58,6 +58,7 @@ fn in_a_trace(rt: HostRuntime) -> Result<(), Fail> {
     let table = Table {
         sites: &sites,
         fields: &fields,
+        above: &[],
     };
     let trace = chrome_text(alloc, &points(), table)?;
     assert!(rt; trace.as_str().contains(EVENT));
@@ -81,6 +82,7 @@ fn in_a_picture_and_a_page(rt: HostRuntime) -> Result<(), Fail> {
     let table = Table {
         sites: &sites,
         fields: &fields,
+        above: &[],
     };
     let svg = timeline_svg(alloc, &points(), table, 960)?;
     assert!(rt; svg.as_str().ends_with(BOX));

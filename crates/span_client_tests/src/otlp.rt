@@ -1,12 +1,13 @@
 //! Tests of exports to OpenTelemetry, which were worked out by hand.
-ghost use Rattle.std.specs.Prelude.{◌*◌};
+ghost use Rattle.std.specs.Prelude.{◌*◌, ◌<◌};
+ghost use Rattle.span_core.specs.Span.{number_of};
 
 use crate::point::{
     at, field, fields, hostile_fields, hostile_points, job, names, points, site, sites, with,
 };
 use span_core::{Id, Level};
 use span_otlp::{
-    Scope, SeededTraces, Trace, TraceIds, TraceParent, otlp_batches, otlp_lines, otlp_logs,
+    Scope, SeededTraces, Trace, TraceIds, TraceParent, laws, otlp_batches, otlp_lines, otlp_logs,
     otlp_traces,
 };
 use span_times::{Happening, OwnedField, OwnedValue, Point, Table};
@@ -68,6 +69,7 @@ fn spans_for_opentelemetry(rt: HostRuntime) -> Result<(), Fail> {
     let table = Table {
         sites: &sites,
         fields: &fields,
+        above: &[],
     };
     let trace = trace_of_shop(alloc)?;
     let lines = otlp_lines(alloc, &trace, &points(), table)?;
@@ -294,6 +296,7 @@ fn attributes_have_their_types(rt: HostRuntime) -> Result<(), Fail> {
     let table = Table {
         sites: &sites,
         fields: &fields,
+        above: &[],
     };
     let (trace, first) = (trace_of_shop(alloc)?, Id::from_u64(1));
     let points = [
@@ -371,6 +374,7 @@ fn events_outside_spans_are_log_records(rt: HostRuntime) -> Result<(), Fail> {
     let table = Table {
         sites: &sites,
         fields: &fields,
+        above: &[],
     };
     let lines = otlp_logs(
         alloc,
@@ -495,6 +499,46 @@ fn each_root_has_a_trace(rt: HostRuntime) -> Result<(), Fail> {
     Ok(())
 }
 
+#[test]
+fn a_part_is_in_the_trace_of_its_root(rt: HostRuntime) -> Result<(), Fail> {
+    laws::a_child_is_in_its_parents_trace();
+    laws::parts_keep_traces();
+    let alloc = rt.alloc();
+    let (sites, trace) = (sites(alloc)?, trace_of_shop(alloc)?);
+    let (root, child, grandchild) = (Id::from_u64(1), Id::from_u64(2), Id::from_u64(3));
+    let above = [
+        Happening::Opened(root, 1, None),
+        Happening::Opened(child, 2, Some(root)),
+    ];
+    let points = [
+        at(0, 0, Happening::Opened(grandchild, 2, Some(child))),
+        at(2, 0, Happening::Closed(grandchild)),
+    ];
+    let table = Table {
+        above: &above,
+        ..names(&sites)
+    };
+    let lines = otlp_traces(alloc, &trace, &Hundreds, &points, table, 1)?;
+    assert!(rt; lines.len() == 1);
+    assert!(rt; lines[0].as_str().ends_with(TRACED[0]));
+    Ok(())
+}
+
+/// The number of a trace that W3C takes.
+fn valid_trace(ids: &SeededTraces, root: Id) -> u128
+    requires { 0 < number_of root }
+    ensures { 0 < result }
+{
+    laws::traces_have_numbers();
+    ids.trace_id(root)
+}
+
+#[test]
+fn no_seed_gives_the_number_0(rt: HostRuntime) {
+    let number = valid_trace(&SeededTraces(0), Id::from_u64(1));
+    assert!(rt; number == 0x9e37_79b9_7f4a_7c15);
+}
+
 /// The number of the second root, which is four times that of the first, of which 2 were carried.
 const SEEDED: &str = "\"traceId\":\"000000000000abcd78dde6e5fd29f054\"}]}]}]}";
 
@@ -518,6 +562,7 @@ fn a_hostile_value_stays_a_value(rt: HostRuntime) -> Result<(), Fail> {
     let table = Table {
         sites: &sites,
         fields: &fields,
+        above: &[],
     };
     let lines = otlp_lines(alloc, &trace_of_shop(alloc)?, &hostile_points(), table)?;
     assert!(rt; lines.len() == 1);

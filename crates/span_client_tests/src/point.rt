@@ -72,7 +72,11 @@ pub(crate) fn points() -> [Point; 12] {
 
 /// These sites, and no fields.
 pub(crate) fn names(sites: &[Site]) -> Table<'_> {
-    Table { sites, fields: &[] }
+    Table {
+        sites,
+        fields: &[],
+        above: &[],
+    }
 }
 
 /// The fields that these came with.

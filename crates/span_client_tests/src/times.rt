@@ -286,7 +286,9 @@ fn what_is_over_is_handed_out(rt: HostRuntime) -> Result<(), Fail> {
     let [open, job] = do_job_meanwhile(&mut dispatch)?;
     let (layer, _registry) = dispatch.into_stack().into_parts();
     let mut timeline = layer.into_observer();
-    hands_out_job(&rt, &timeline.take_finished()?, job);
+    let taken = timeline.take_finished()?;
+    hands_out_job(&rt, &taken, job);
+    assert!(rt; taken.above.as_slice() == [Happening::Opened(open, 1, None)].as_slice());
     keeps_open(&rt, &timeline, open);
     assert!(rt; timeline.take_finished()?.points.is_empty());
     keeps_open(&rt, &timeline, open);

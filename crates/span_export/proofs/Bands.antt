@@ -173,6 +173,16 @@ module _ (on from : ℕ → ℕ) (split : (a b : ℕ) → a < b → on a + from 
       let fits : h + e.1 * 24 + 24 < 2 ^ 64 = omega arith in
       one_more_lane h e es fits up.1 (have_tops (below h e.1) (e.0 + 1) es up.1 paid.1 (omega arith))
 
+  -- the last of them ends within that room
+  pub end_within : (h k : ℕ) (es : List (ℕ × ℕ)) → Rising k es → AllByRecursion (λ e. e.1 * 24 + 24 ≤ on e.0 * 48) es → end_from h es ≤ h + from k * 48
+  end_within h k [] up paid = omega arith
+  end_within h k (e ∷ es) up paid =
+      let part = split e.0 (e.0 + 1) (omega arith) in
+      let less = falls k e.0 up.0 in
+      let paid_here = paid.0 in
+      let rest = end_within (below h e.1) (e.0 + 1) es up.1 paid.1 in
+      omega arith
+
 -- lanes whose keys rise are found as they are
 rising_later : (k : ℕ) (es : List (ℕ × ℕ)) → Rising k es → AllByRecursion (λ e. k ≤ e.0) es
 rising_later k [] up = tt

@@ -9,7 +9,7 @@ use Rattle.std.specs.Map.{keys_of, lookup}
 use Rattle.std.specs.Ordering.{nat_cmp}
 use Rattle.std.proofs.lemmas.Bool.{and_parts, eqb-true}
 use Rattle.std.proofs.lemmas.Nat.{div-add-mod', le-div}
-use Rattle.span_export.proofs.Bands.{HasTops, each_found, have_tops, keys-tops_from, rising_all}
+use Rattle.span_export.proofs.Bands.{HasTops, each_found, end_within, have_tops, keys-tops_from, rising_all}
 use Rattle.span_export.proofs.Counts.{count_fits, count_from, count_on, counted_some, counts_fall, counts_fit, counts_split, some_count}
 use Rattle.span_export.proofs.Rows.{IsShallow, all_at, both, overlapping_deeper, rows_fit, rows_suffice, shallow_all, some_row, weaker}
 use Rattle.span_export.specs.Picture.{FitsPicture, IsInBand, area_of, begins_within, has_points, place_of, stays_of, top_in, until}
@@ -89,6 +89,14 @@ module _ (plan : Plan) (ps : List Point) (width : ℕ) (is : IsPlanOf plan (scal
       have_tops (count_on ps) (count_from ps) (counts_split ps) (counts_fall ps) 56 0 is.rows (rising_all is.rows is.sorted)
       (each_paid is.rows (each_found is.rows is.sorted)) (let most = counts_fit ps 0 in omega arith)
 
+  low : plan.height ≤ 56 + 48 * length ps
+  low =
+      let within = end_within (count_on ps) (count_from ps) (counts_split ps) (counts_fall ps) 56 0 is.rows (rising_all is.rows is.sorted)
+      (each_paid is.rows (each_found is.rows is.sorted)) in
+      let most = counts_fit ps 0 in
+      let height = is.height in
+      omega arith
+
   is_top : (lane : ℕ) → top_in plan.tops lane ≡ unwrap_or (lookup (is_at (nat_cmp lane)) (tops_from 56 is.rows)) 0
   is_top lane = ap (λ (es : List (ℕ × ℕ)). unwrap_or (lookup (is_at (nat_cmp lane)) es) 0) is.tops
 
@@ -165,10 +173,12 @@ module _ (plan : Plan) (ps : List Point) (width : ℕ) (is : IsPlanOf plan (scal
   pub plan_fits : FitsPicture plan ps width
   plan_fits = record {
     bottom = bottom;
+    low = low;
     bands = record { once = in_order; lanes = all_lanes; inside = is_inside; apart = are_apart };
     boxes = weaker IsPlaced
         (λ s. IsInBand (max width 320) (top_in plan.tops s.lane.0) (bottom s.lane.0) (place_of ps width plan s)) (stays_of ps) in_band all_placed;
     rows = below_others;
     times = later_right (scale_of ps width);
     axis = is.axis;
+    steps = is.steps;
   }

@@ -55,8 +55,8 @@ abbrev pub micro : List ℕ
 micro = 32 ∷ 194 ∷ 181 ∷ 115 ∷ []
 
 -- a time in the largest unit of which the steps are multiples
-abbrev pub time_text : ℕ → ℕ → List ℕ
-time_text time step =
+abbrev pub tick_time : ℕ → ℕ → List ℕ
+tick_time time step =
     if step % 1000000000 == 0 then decimal (time / 1000000000) ++ codes " s"
     else if step % 1000000 == 0 then decimal (time / 1000000) ++ codes " ms"
     else if step % 1000 == 0 then decimal (time / 1000) ++ micro
@@ -74,7 +74,7 @@ abbrev pub tick_text : Scale → Plan → ℕ → List ℕ
 tick_text scale plan count =
     let after = capped (plan.step * count) in
     if nat_le after (scale.finish - scale.begin)
-    then time_line (time_text after plan.step) (x_at scale (capped (scale.begin + after)))
+    then time_line (tick_time after plan.step) (x_at scale (capped (scale.begin + after)))
     plan.height
     else []
 

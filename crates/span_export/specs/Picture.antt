@@ -168,11 +168,13 @@ pub record IsInBand (width top bottom : ℕ) (area : Area) : Type 0 where
   pub below : top + 16 ≤ area.y
   pub above : area.y + 20 ≤ bottom
 
--- a plan fits a picture of points: boxes lie in the bands of their lanes; one that begins while
--- another of its lane lasts lies in a row below that, if time never goes back; later times lie no
--- further left; and nine lines of the axis reach beyond the points
+-- a plan fits a picture of points: it is 48 high for each point at most, beside its head; boxes lie
+-- in the bands of their lanes; one that begins while another of its lane lasts lies in a row below
+-- that, if time never goes back; later times lie no further left; and nine steps of the axis reach
+-- beyond the points, but three don't, where these take three nanoseconds
 pub record FitsPicture (plan : Plan) (ps : List Point) (width : ℕ) : Type 0 where
   pub bottom : ℕ → ℕ
+  pub low : plan.height ≤ 56 + 48 * length ps
   pub bands : HasBands plan ps bottom
   pub boxes : AllByRecursion (λ s. IsInBand (max width 320) (top_in plan.tops s.lane.0)
       (bottom s.lane.0) (place_of ps width plan s)) (stays_of ps)
@@ -182,6 +184,7 @@ pub record FitsPicture (plan : Plan) (ps : List Point) (width : ℕ) : Type 0 wh
   pub times : (early late : ℕ) → early ≤ late
       → x_at (scale_of ps width) early ≤ x_at (scale_of ps width) late
   pub axis : (scale_of ps width).finish - (scale_of ps width).begin < plan.step * 9
+  pub steps : plan.step * 3 ≤ max ((scale_of ps width).finish - (scale_of ps width).begin) 3
 
 -- a text is a picture of points: in the frame of a plan that fits them the boxes of all stays and
 -- the marks of all events

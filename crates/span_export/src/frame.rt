@@ -2,8 +2,8 @@
 //! mean.
 ghost use Rattle.std.specs.BTreeMap.{get};
 ghost use Rattle.std.specs.Ordering.{nat_cmp};
-ghost use Rattle.std.specs.Prelude.{◌≡◌, ◌<◌, ◌*◌, ◌++◌, ℕ, IfOk, OnOk, string_bytes};
-ghost use Rattle.span_export.specs.Frame.{axis_text, frame_text, head_in, head_text, lane_text, lanes_text, style, tag_text, time_line, tick_text, time_text};
+ghost use Rattle.std.specs.Prelude.{◌≡◌, ◌<◌, ◌≤◌, ◌*◌, ◌++◌, ℕ, IfOk, OnOk, max, string_bytes};
+ghost use Rattle.span_export.specs.Frame.{axis_text, frame_text, head_in, head_text, lane_text, lanes_text, style, tag_text, time_line, tick_text, tick_time};
 ghost use Rattle.span_export.specs.private.Plan.{IsPlanOf, rows_in, rows_on};
 
 use crate::picture::Scale;
@@ -186,7 +186,7 @@ fn write_tick(
     if after > scale.finish.saturating_sub(scale.begin) {
         return Ok(());
     }
-    let time = time_text(alloc, after, plan.step)?;
+    let time = tick_time(alloc, after, plan.step)?;
     let x = scale.x(scale.begin.saturating_add(after));
     write_line(text, time.as_str(), x, plan.height)
 }
@@ -205,24 +205,27 @@ fn write_line(text: &mut String, time: &str, x: u64, height: u64) -> Result<(), 
 
 /// One, two or five times a power of ten: the least of which at most eight fit into a time.
 fn step(span: u64) -> u64
-    ensures { span < result * 9 }
+    ensures few { span < result * 9 }
+    ensures some { result * 3 ≤ max span 3 }
 {
     let mut power = 1u64;
-    for _ in 0..20 {
-        for times in [1, 2, 5] {
-            let step = power.saturating_mul(times).max(1);
-            if span / step <= 8 {
-                return step;
-            }
-        }
-        power = power.saturating_mul(10);
+    while power <= span / 90 {
+        power *= 10;
     }
-    u64::MAX
+    if span / 9 < power {
+        power
+    } else if span / 18 < power {
+        power * 2
+    } else if span / 45 < power {
+        power * 5
+    } else {
+        power * 10
+    }
 }
 
 /// A time in the largest unit of which the steps are multiples.
-fn time_text(alloc: Global, time: u64, step: u64) -> Result<String, AllocError>
-    ensures { IfOk result (λ text. string_bytes text ≡ time_text time step) }
+fn tick_time(alloc: Global, time: u64, step: u64) -> Result<String, AllocError>
+    ensures { IfOk result (λ text. string_bytes text ≡ tick_time time step) }
 {
     if step % 1_000_000_000 == 0 {
         let count = time / 1_000_000_000;

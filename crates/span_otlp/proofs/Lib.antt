@@ -4,8 +4,11 @@ mod Depth
 mod Digits
 mod Kept
 mod Lost
-mod Openings
 mod Own
 mod Parents
 mod Records
 mod Requests
+mod Rooted
+mod Seeds
+mod Shared
+mod Sound

@@ -22,10 +22,10 @@ use Rattle.span_otlp.proofs.Depth.{dropped_within, items_within}
 use Rattle.span_otlp.specs.Attribute.{attribute_of, attributes_of, not_given}
 use Rattle.span_otlp.specs.Batch.{known_attribute, only, request_under, request_value, resource_attributes, resource_value, scope_value}
 use Rattle.span_otlp.specs.Dropped.{dropped_by, missing}
-use Rattle.span_times.specs.Measure.{busy_in, idle_in}
+use Rattle.span_times.specs.Measure.{busy_in, idle_in, since_opening}
 use Rattle.span_export.specs.Json.{object_of, whole}
 use Rattle.span_otlp.specs.Otlp.{event_known, event_of, event_value, events_of, has_error, is_in, link_of, link_value, links_of, nanos}
-use Rattle.span_otlp.specs.Otlp.{since_opening, span_at, span_head, span_id, span_known, span_of, span_value, spans_from, status_value, trace_id}
+use Rattle.span_otlp.specs.Otlp.{span_at, span_head, span_id, span_known, span_of, span_value, spans_from, status_value, trace_id}
 use Rattle.span_export.specs.Site.{Named, called, event_named}
 use Rattle.span_otlp.specs.Value.{proto_name, typed, typed_data}
 use Rattle.span_otlp.specs.private.Sent.{IsWithin}

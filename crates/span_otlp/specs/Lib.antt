@@ -4,6 +4,8 @@ pub mod Dropped
 pub mod LogRecord
 pub mod Otlp
 pub mod Root
+pub mod Shared
+pub mod Sound
 pub mod TraceId
 pub mod TraceParent
 pub mod Value

@@ -11,7 +11,7 @@ use Rattle.span_core.specs.Span.{number_of}
 use Rattle.span_core.specs.declared.span.Id.{Id}
 use Rattle.span_times.specs.Field.Said.{Whole, Words}
 use Rattle.span_times.specs.Field.{FieldSaid}
-use Rattle.span_times.specs.Measure.{busy_in, capped, idle_in, opens}
+use Rattle.span_times.specs.Measure.{busy_in, capped, idle_in, since_opening}
 use Rattle.span_times.specs.declared.happening.Happening.TheVariants.{Closed, Followed, Opened, Sent}
 use Rattle.span_times.specs.declared.happening.Happening.{Happening}
 use Rattle.span_times.specs.declared.happening.Point.{Point}
@@ -19,7 +19,7 @@ use Rattle.span_times.specs.declared.kept.Table.{Table}
 use Rattle.span_otlp.specs.Attribute.{attributes_of}
 use Rattle.span_otlp.specs.Batch.{request_value}
 use Rattle.span_otlp.specs.Dropped.{dropped_by, missing, with_dropped}
-use Rattle.span_otlp.specs.Root.{root_in}
+use Rattle.span_otlp.specs.Root.{known_of, root_in}
 pub use Rattle.span_export.specs.Json.{AllMean}
 use Rattle.span_export.specs.Json.{members, object_of, whole}
 use Rattle.span_export.specs.Site.{Named, called, event_named, leveled, named_in, site_numbered, targeted}
@@ -134,16 +134,6 @@ span_value trace traces table site span life =
     ∷ (codes "attributes", attributes_of known site.given)
     ∷ (codes "name", string (called site)) ∷ span_head trace traces span)))
 
--- what was found, or this point and those behind it where it opens the span
-abbrev pub found_or : ℕ → Point → List Point → List Point → List Point
-found_or x p rest [] = if opens x p.what then p ∷ rest else []
-found_or x p rest (f ∷ found) = f ∷ found
-
--- the points from the last on that opens this span; none where none does
-abbrev pub since_opening : ℕ → List Point → List Point
-since_opening x [] = []
-since_opening x (p ∷ ps) = found_or x p ps (since_opening x ps)
-
 -- the span that closes at this point, if these are the points from its opening up to there
 abbrev pub span_of
     : Trace → (ℕ → ℕ) → Table → Named → Id → Point → List Point → Option Data
@@ -172,7 +162,7 @@ spans_from trace traces table named before (p ∷ rest) =
 -- root has
 abbrev pub spans_in : Trace → (ℕ → ℕ) → Table → List Point → List Data
 spans_in trace trace_of table ps =
-    spans_from trace (λ x. trace_of (root_in ps x)) table (named_in table ps) [] ps
+    spans_from trace (λ x. trace_of (root_in (known_of table ps) x)) table (named_in table ps) [] ps
 
 -- the spans that close, all in the trace with its number
 abbrev pub spans_of : Trace → Table → List Point → List Data

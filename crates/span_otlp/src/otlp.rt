@@ -6,7 +6,7 @@ ghost use Rattle.serde_json.specs.View.{members_view, view};
 ghost use Rattle.span_core.specs.Span.{number_of};
 ghost use Rattle.span_otlp.specs.Batch.{AreBatches};
 ghost use Rattle.span_export.specs.Json.{AllMean, AreCompact, members};
-ghost use Rattle.span_otlp.specs.Otlp.{event_of, event_value, events_of, has_error, is_failure, is_of_errors, link_of, link_value, links_of, nanos, parent_of, requests_of, since_opening, span_at, span_head, span_id, span_value, spans_from, spans_in, spans_of, status_value, trace_id};
+ghost use Rattle.span_otlp.specs.Otlp.{event_of, event_value, events_of, has_error, is_failure, is_of_errors, link_of, link_value, links_of, nanos, parent_of, requests_of, span_at, span_head, span_id, span_value, spans_from, spans_in, spans_of, status_value, trace_id};
 ghost use Rattle.span_export.specs.Site.{event_named, named_by, named_so};
 ghost use Rattle.span_otlp.specs.declared.batch.Signal.TheVariants as signal;
 ghost use Rattle.span_otlp.specs.private.Rooted.{trace_by};
@@ -22,7 +22,7 @@ use serde_json::{Map, Value, json, put};
 use span_core::{Id, Level};
 use span_export::given::latest_given;
 use span_export::site::{Name, Spans, find_site};
-use span_times::{Happening, Point, Site, Table, busy_time, idle_time};
+use span_times::{Happening, Point, Site, Table, busy_time, idle_time, since_opening};
 use std::alloc::{AllocError, Global};
 
 /// What OpenTelemetry asks for of a trace beside its points.
@@ -132,9 +132,11 @@ pub fn otlp_batches(
 /// place of the trace's. A span is in the trace of its root, and a link says that of the span that
 /// it links to.
 ///
-/// A span has its parent's root, unless it has no parent. One whose opening isn't among the points
-/// is taken for a root: so hand over all points since the root opened. Roots are below the trace's
-/// parent, if it has one, which would be a span of another trace: leave it out.
+/// A span has its parent's root, unless it has no parent. One whose opening is neither among the
+/// points nor in the table's `above` is taken for a root: so hand over all points since the root
+/// opened, or each time what `Timeline::take_finished` gives. A span that is linked to and was
+/// handed out before is taken for one, too. Roots are below the trace's parent, if it has one,
+/// which would be a span of another trace: leave it out.
 pub fn otlp_traces<I: TraceIds>(
     alloc: Global,
     trace: &Trace,
@@ -149,7 +151,7 @@ pub fn otlp_traces<I: TraceIds>(
     ensures compact { IfOk result (λ lines. AreCompact (map string_bytes lines.items)) }
 {
     let spans = Spans::of(alloc, points, table)?;
-    let roots = Roots::of(alloc, points)?;
+    let roots = Roots::of(alloc, points, table)?;
     let traces = Traces { ids, roots };
     let plan = Plan {
         trace,
@@ -217,18 +219,6 @@ fn span_at<I: TraceIds>(
         close: *point,
     };
     Ok(Some(span(alloc, trace, traces, table, name, closed, life)?))
-}
-
-/// The points from the last on that opens a span; none where none does.
-fn since_opening(points: &[Point], id: Id) -> &[Point]
-    ensures { result.now ≡ since_opening (number_of id) points.now }
-{
-    for start in (0..points.len()).rev() {
-        if points[start].what.opens(id) {
-            return &points[start..];
-        }
-    }
-    &[]
 }
 
 /// A span that closed.

@@ -1,11 +1,12 @@
 //! The root spans, which others are below.
-ghost use Rattle.std.specs.Prelude.{◌≡◌, ℕ, IfOk, OnOk};
+ghost use Rattle.std.specs.Prelude.{◌≡◌, ◌++◌, ℕ, IfOk, List, OnOk};
 ghost use Rattle.span_core.specs.Span.{number_of};
-ghost use Rattle.span_otlp.specs.Root.{root_after, root_in};
-ghost use Rattle.span_otlp.specs.private.Rooted.{root_by};
+ghost use Rattle.span_times.specs.declared.happening.Happening.{Happening};
+ghost use Rattle.span_otlp.specs.Root.{known_of, root_after};
+ghost use Rattle.span_otlp.specs.private.Rooted.{AreRoots, root_by};
 
 use span_core::Id;
-use span_times::{Happening, Point};
+use span_times::{Happening, Point, Table};
 use std::alloc::{AllocError, Global};
 use std::collections::BTreeMap;
 
@@ -16,17 +17,29 @@ pub(crate) struct Roots {
 }
 
 impl Roots {
-    /// The roots of all spans of these points.
-    pub(crate) fn of(alloc: Global, points: &[Point]) -> Result<Roots, AllocError>
-        ensures { IfOk result (λ roots. (x : ℕ) → root_by roots x ≡ root_in points.now x) }
+    /// The roots of all spans of these points, and of those above them.
+    pub(crate) fn of(alloc: Global, points: &[Point], table: Table<'_>) -> Result<Roots, AllocError>
+        ensures { IfOk result (AreRoots (known_of table.entry points.now)) }
     {
         let mut roots = Roots {
             found: BTreeMap::new(alloc),
         };
+        roots.note_all(table.above)?;
         for point in points {
             roots.note(point.what)?;
         }
         Ok(roots)
+    }
+
+    /// Notes the roots of spans that open.
+    fn note_all(&mut self, above: &[Happening]) -> Result<(), AllocError>
+        ensures { OnOk result ((hs : List Happening) → AreRoots hs self.old
+            → AreRoots (hs ++ above.now) self.new) }
+    {
+        for what in above {
+            self.note(*what)?;
+        }
+        Ok(())
     }
 
     /// Notes the root of a span that opens.

@@ -137,3 +137,4 @@ pub record IsToldOf (s : SubscriberOf (WithTimeline RegistryState Counted))
       ≡ sites_at [] (passed_at timeline_position (flat served.served.made))
   pub fields : kept_in taken.fields.items
       ≡ fields_at true (passed_at timeline_position (flat served.served.made))
+  pub above : taken.above.items ≡ []

@@ -96,6 +96,7 @@ pub record IsExportOf (s : SubscriberOf (WithTimeline RegistryState Counted)) (f
   pub told : IsToldOf s requests taken
   pub sites : table.sites.now ≡ taken.sites.items
   pub fields : table.fields.now ≡ taken.fields.items
+  pub above : table.above.now ≡ taken.above.items
   pub exported : IsExport format table taken.points.items text
 
 -- Below: a writer, before and after.

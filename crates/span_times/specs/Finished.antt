@@ -4,7 +4,7 @@ use Rattle.std.specs.Option.{option_map, option_map_or}
 use Rattle.span_core.specs.Span.{number_of}
 use Rattle.span_times.specs.Field.{FieldSaid, kept_in, range_of, within}
 use Rattle.span_times.specs.Kept.{KeptState, point_at}
-use Rattle.span_times.specs.Measure.{closes, opens}
+use Rattle.span_times.specs.Measure.{closes, is_opening, opens}
 use Rattle.span_times.specs.Site.{sites_said}
 use Rattle.span_times.specs.declared.happening.Happening.TheVariants.{Closed, Entered, Followed, Left, Opened, Recorded, Renamed, Sent}
 use Rattle.span_times.specs.declared.happening.Happening.{Happening}
@@ -51,6 +51,10 @@ points_said kept ps =
       fields = within p.fields kept;
     }) ps
 
+-- the openings among what happened at points
+abbrev pub openings_in : List Point → List Happening
+openings_in ps = filter is_opening (map (λ p. p.what) ps)
+
 -- whether something goes with what is over, or with the rest, where these spans are closed
 abbrev pub goes_with : Bool → (ℕ → Bool) → Happening → Bool
 goes_with over closed h = if over then is_over closed h else not (is_over closed h)
@@ -67,11 +71,13 @@ points_for from (s ∷ ss) =
     point_at s.time s.lane s.what (range_of from count) ∷ points_for (from + count) ss
 
 -- what is kept is handed out where it is over, and stays where it isn't: each point goes one way,
--- in order and with the fields that it came with. All sites are handed out, and stay
+-- in order and with the fields that it came with. All sites and the openings that stay are handed
+-- out, and stay
 pub record HandsOutFinished (taken : Taken) (x y : KeptState) : Type 0 where
   pub over : points_said (kept_in taken.fields.items) taken.points.items
       ≡ picked true (is_closed_in x.points) (points_said x.fields x.points)
   pub rest : points_said y.fields y.points
       ≡ picked false (is_closed_in x.points) (points_said x.fields x.points)
+  pub above : taken.above.items ≡ openings_in y.points
   pub named : sites_said taken.sites.items ≡ x.sites
   pub sites : y.sites ≡ x.sites

@@ -88,6 +88,16 @@ abbrev pub closes : ℕ → Happening → Bool
 closes x (Closed id) = number_of id == x
 closes x other = false
 
+-- what was found, or this point and those behind it where it opens the span
+abbrev pub found_or : ℕ → Point → List Point → List Point → List Point
+found_or x p rest [] = if opens x p.what then p ∷ rest else []
+found_or x p rest (f ∷ found) = f ∷ found
+
+-- the points from the last on that opens this span; none where none does
+abbrev pub since_opening : ℕ → List Point → List Point
+since_opening x [] = []
+since_opening x (p ∷ ps) = found_or x p ps (since_opening x ps)
+
 -- when the first of such things happened, if any did
 abbrev pub first_time : (Happening → Bool) → List Point → Option ℕ
 first_time is ps = option_map (λ p. p.time) (find (λ p. is p.what) ps)

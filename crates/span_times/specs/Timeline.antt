@@ -145,6 +145,7 @@ pub record TakesAll {C : Type 0} (latest : C → ℕ) (taken : Taken) (x y : Tim
   pub points : taken.points.items ≡ points_of x
   pub sites : sites_said taken.sites.items ≡ sites_of x
   pub fields : kept_in taken.fields.items ≡ fields_of x
+  pub above : taken.above.items ≡ []
   pub no_points : points_of y ≡ []
   pub no_sites : sites_of y ≡ []
   pub no_fields : fields_of y ≡ []

@@ -3,7 +3,7 @@ ghost use Rattle.std.specs.BTreeSet.{contains};
 ghost use Rattle.std.specs.Ordering.{nat_cmp};
 ghost use Rattle.std.specs.Prelude.{◌≡◌, ◌++◌, ◌∷◌, [], ℕ, IfOk, OnOk, flat_map, length};
 ghost use Rattle.span_times.specs.Field.{kept_in, range_of};
-ghost use Rattle.span_times.specs.Finished.{closed_after, goes_with, is_closed_in, is_over, picked, points_for, points_said};
+ghost use Rattle.span_times.specs.Finished.{closed_after, goes_with, is_closed_in, is_over, openings_in, picked, points_for, points_said};
 ghost use Rattle.span_times.specs.Kept.{point_at};
 
 use crate::field::{FieldRange, OwnedField};
@@ -59,6 +59,16 @@ fn goes_with(over: bool, closed: &BTreeSet<u64>, what: Happening) -> bool
     } else {
         !is_over(closed, what)
     }
+}
+
+/// The openings among these points.
+pub(crate) fn openings(alloc: Global, points: &[Point]) -> Result<Vec<Happening>, AllocError>
+    ensures { IfOk result (λ openings. openings.items ≡ openings_in points.now) }
+{
+    let happenings = points.iter().map(|point| point.what);
+    happenings
+        .filter(|what| matches!(what, Happening::Opened(_, _, _)))
+        .collect(alloc)
 }
 
 /// Points, and the fields that they came with.

@@ -7,7 +7,7 @@ ghost use Rattle.span_times.specs.Site.{sites_said};
 ghost use Rattle.span_times.specs.Kept.{IsFull, KeepsNone, KeepsPoint, NeedsNone};
 
 use crate::field::{FieldRange, OwnedField, keep_given};
-use crate::finished::{closed_in, copied};
+use crate::finished::{closed_in, copied, openings};
 use crate::happening::{Happening, Point};
 use crate::site::{Site, Sites};
 use span_core::{FieldValue, Lane, Metadata};
@@ -15,13 +15,16 @@ use std::alloc::{AllocError, Global};
 use std::marker::Model;
 use std::mem;
 
-/// What points refer to: what their callsites are called, and the fields that they came with.
+/// What points refer to: what their callsites are called, the fields that they came with, and the
+/// spans above theirs that were still open.
 #[derive(Clone, Copy)]
 pub struct Table<'a> {
     /// The sites of their callsites.
     pub sites: &'a [Site],
     /// The fields that they came with.
     pub fields: &'a [OwnedField],
+    /// The openings of spans that aren't among the points, the outer ones first.
+    pub above: &'a [Happening],
 }
 
 /// What is taken out of a timeline: its points, and what they refer to.
@@ -33,6 +36,8 @@ pub struct Taken {
     pub sites: Vec<Site>,
     /// The fields that points came with, one after the other; a point says which are its own.
     pub fields: Vec<OwnedField>,
+    /// The openings of the spans that stay, the outer ones first: some points may be below these.
+    pub above: Vec<Happening>,
 }
 
 impl Taken {
@@ -40,10 +45,12 @@ impl Taken {
     pub fn table(&self) -> Table<'_>
         ensures sites { result.sites.now ≡ self.now.sites.items }
         ensures fields { result.fields.now ≡ self.now.fields.items }
+        ensures above { result.above.now ≡ self.now.above.items }
     {
         Table {
             sites: &self.sites,
             fields: &self.fields,
+            above: &self.above,
         }
     }
 }
@@ -109,10 +116,12 @@ impl Kept {
     pub(crate) fn table(&self) -> Table<'_>
         ensures sites { sites_said result.sites.now ≡ self.now.sites }
         ensures fields { kept_in result.fields.now ≡ self.now.fields }
+        ensures above { result.above.now ≡ [] }
     {
         Table {
             sites: self.sites.sites(),
             fields: &self.fields,
+            above: &[],
         }
     }
 
@@ -163,6 +172,7 @@ impl Kept {
         ensures points { result.points.items ≡ self.old.points }
         ensures sites { sites_said result.sites.items ≡ self.old.sites }
         ensures fields { kept_in result.fields.items ≡ self.old.fields }
+        ensures above { result.above.items ≡ [] }
         ensures no_points { self.new.points ≡ [] }
         ensures no_sites { self.new.sites ≡ [] }
         ensures no_fields { self.new.fields ≡ [] }
@@ -171,11 +181,13 @@ impl Kept {
             points: mem::replace(&mut self.points, Vec::new(self.alloc)),
             sites: self.sites.take(),
             fields: mem::replace(&mut self.fields, Vec::new(self.alloc)),
+            above: Vec::new(self.alloc),
         }
     }
 
-    /// Hands out copies of the points that are over, with their fields, and of all sites, and
-    /// forgets these points and fields. Where memory is refused, all stays as it was.
+    /// Hands out copies of the points that are over, with their fields, of all sites, and of the
+    /// openings that stay, and forgets these points and fields. Where memory is refused, all stays
+    /// as it was.
     pub(crate) fn take_finished(&mut self) -> Result<Taken, AllocError>
         ensures taken { IfOk result (λ taken. HandsOutFinished taken self.old self.new) }
         ensures unchanged { OnErr result (self.new ≡ self.old) }
@@ -183,6 +195,7 @@ impl Kept {
         let closed = closed_in(self.alloc, &self.points)?;
         let over = copied(self.alloc, &self.points, &self.fields, &closed, true)?;
         let left = copied(self.alloc, &self.points, &self.fields, &closed, false)?;
+        let above = openings(self.alloc, &left.points)?;
         let sites = self.sites.copied()?;
         self.points = left.points;
         self.fields = left.fields;
@@ -190,6 +203,7 @@ impl Kept {
             points: over.points,
             sites,
             fields: over.fields,
+            above,
         })
     }
 }

@@ -18,7 +18,7 @@ pub use clock::{Counted, Now, Wall};
 pub use field::{FieldRange, OwnedField, OwnedValue};
 pub use happening::{Happening, Point};
 pub use kept::{Table, Taken};
-pub use measure::{Counts, busy_time, idle_time, open_time};
+pub use measure::{Counts, busy_time, idle_time, open_time, since_opening};
 pub use serving::{WithTimeline, serve_timed};
 pub use site::Site;
 pub use timeline::Timeline;

@@ -2,7 +2,7 @@
 ghost use Rattle.std.specs.Option.{option_map};
 ghost use Rattle.std.specs.Prelude.{◌≡◌, None, find};
 ghost use Rattle.span_core.specs.Span.{number_of};
-ghost use Rattle.span_times.specs.Measure.{busy_in, capped, closes, count_in, gap, idle_in, is_about, is_close, is_event, is_gap, is_opening, open_in, opens, spent};
+ghost use Rattle.span_times.specs.Measure.{busy_in, capped, closes, count_in, gap, idle_in, is_about, is_close, is_event, is_gap, is_opening, open_in, opens, since_opening, spent};
 
 use crate::happening::{Happening, Point};
 use span_core::Id;
@@ -42,6 +42,18 @@ pub fn open_time(points: &[Point], id: Id) -> Option<u64>
     let opened = opening(points, id)?;
     let closed = close(points, id)?;
     Some(closed.time.saturating_sub(opened.time))
+}
+
+/// The points from the last on that opens a span; none where none does.
+pub fn since_opening(points: &[Point], id: Id) -> &[Point]
+    ensures { result.now ≡ since_opening (number_of id) points.now }
+{
+    for start in (0..points.len()).rev() {
+        if points[start].what.opens(id) {
+            return &points[start..];
+        }
+    }
+    &[]
 }
 
 /// The first opening of a span with this id.

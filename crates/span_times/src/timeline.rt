@@ -1,5 +1,5 @@
 //! A layer that keeps what happened, on which lane, and when.
-ghost use Rattle.std.specs.Prelude.{◌≡◌, IfOk, OnErr, false, true};
+ghost use Rattle.std.specs.Prelude.{◌≡◌, [], IfOk, OnErr, false, true};
 ghost use Rattle.span_times.specs.Field.{given_by, kept_in};
 ghost use Rattle.span_times.specs.Kept.{IsFull, KeepsNone, KeepsPoint, NeedsNone};
 ghost use Rattle.span_times.specs.Site.{sites_said};
@@ -68,10 +68,11 @@ impl<C: Now> Timeline<C> {
     }
 
     /// What the points refer to: what their callsites are called, and the fields that they came
-    /// with.
+    /// with. No span is above them.
     pub fn table(&self) -> Table<'_>
         ensures sites { sites_said result.sites.now ≡ sites_of self.now }
         ensures fields { kept_in result.fields.now ≡ fields_of self.now }
+        ensures above { result.above.now ≡ [] }
     {
         self.kept.table()
     }
@@ -94,7 +95,8 @@ impl<C: Now> Timeline<C> {
 
     /// Hands out the points of spans that have closed, with the events in them, and those of events
     /// that are in no span, and forgets them and their fields. So a server keeps what is open, and
-    /// what came since the last call. Sites stay, and are handed out each time.
+    /// what came since the last call. Sites stay, and are handed out each time; so are the openings
+    /// of the spans that stay, below which some of those that closed may be.
     ///
     /// Points and fields are copied, both ways: where memory is refused, all stays as it was. A
     /// timeline that failed stays so: then call `take`.

@@ -1,5 +1,5 @@
 -- How a picture is laid out.
-use Rattle.std.specs.Prelude.{◌≡◌, ◌<◌, ◌+◌, ◌-◌, ◌*◌, ◌==◌, ℕ, if◌then◌else◌, max, List, [], ◌∷◌, None, Option, Some, fold}
+use Rattle.std.specs.Prelude.{◌≡◌, ◌<◌, ◌≤◌, ◌+◌, ◌-◌, ◌*◌, ◌==◌, ℕ, if◌then◌else◌, max, List, [], ◌∷◌, None, Option, Some, fold}
 use Rattle.std.specs.BTreeMap.{is_at}
 use Rattle.std.specs.List.Sorted.{IsStrictlySortedBy}
 use Rattle.std.specs.Map.{keys_of, lookup}
@@ -43,3 +43,4 @@ pub record IsPlanOf (plan : Plan) (scale : Scale) (ps : List Point) (stays : Lis
   pub tops : plan.tops.entries ≡ tops_from 56 rows
   pub height : plan.height ≡ end_from 56 rows
   pub axis : scale.finish - scale.begin < plan.step * 9
+  pub steps : plan.step * 3 ≤ max (scale.finish - scale.begin) 3

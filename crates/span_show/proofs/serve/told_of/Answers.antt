@@ -56,4 +56,5 @@ returns-clause-told c =
       sites = c.take.ensures.sites ∙ ap sites_of timeline ∙ all.sites ∙ ap (λ (ss : List SiteSaid). sites_at ss heard) sites;
       fields = c.take.ensures.fields ∙ ap fields_of timeline ∙ all.fields
           ∙ ap (λ (fs : List FieldSaid). fs ++ fields_at (keeps_values old) heard) fields ∙ ap (λ (k : Bool). fields_at k heard) values;
+      above = c.take.ensures.above;
     }

@@ -14,6 +14,7 @@ returns-in-Ok-clause-shown g c =
       told = c.in_ok-taken.ensures.told;
       sites = c.table.ensures.sites;
       fields = c.table.ensures.fields;
+      above = c.table.ensures.above;
       exported = subst (λ (ps : List Point). IsExport format c.table.result ps text) c.deref.ensures.value c.in_ok-text.ensures;
     } in (
       text,

@@ -1,6 +1,6 @@
 use Rattle.std.proofs.Common.{◌∙◌, ap, false, rules, true}
 use Rattle.span_times.proofs.Batches.{read_copies}
-use Rattle.span_times.specs.Finished.{is_closed_in, picked, points_said}
+use Rattle.span_times.specs.Finished.{is_closed_in, openings_in, picked, points_said}
 use Rattle.span_times.specs.Kept.{KeptState}
 use Rattle.span_times.proofs.kept.Kept.take_finished.Goals as goal
 
@@ -16,6 +16,7 @@ returns-clause-taken c =
       rest = read_copies false c.in_ok-closed.closed ps _ _ _ fs _ _ seen c.deref-4.ensures.value c.deref-5.ensures.value
           c.in_ok-closed.ensures c.in_ok-left.ensures.points c.in_ok-left.ensures.fields
           ∙ ap (λ (s : KeptState). picked false (is_closed_in s.points) (points_said s.fields s.points)) c.self.view_is;
+      above = c.in_ok-above.ensures ∙ ap openings_in c.deref-6.ensures.value;
       named = search rules;
       sites = search rules;
     }

@@ -1,8 +1,8 @@
 use Rattle.std.proofs.Common.{◌≡◌, ◌+◌, ◌-◌, ◌∙◌, [], arith, drop, sym}
 use Rattle.span_core.specs.Span.{number_of}
-use Rattle.span_otlp.specs.Otlp.{since_opening}
-use Rattle.span_otlp.proofs.Openings.{found_here}
-use Rattle.span_otlp.proofs.otlp.since_opening.Goals as goal
+use Rattle.span_times.specs.Measure.{since_opening}
+use Rattle.span_times.proofs.Openings.{found_here}
+use Rattle.span_times.proofs.measure.since_opening.Goals as goal
 
 pub returns-then-opens : goal.returns-then-opens
 returns-then-opens c =

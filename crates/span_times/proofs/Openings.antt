@@ -1,9 +1,8 @@
 -- The last point that opens a span.
 use Rattle.std.proofs.Common.{◌≡◌, ◌∙◌, ◌<◌, ◌+◌, ◌-◌, ℕ, zero, suc, true, List, [], ◌∷◌, ap, drop, get_or, length, sym, take, if◌then◌else◌}
 use Rattle.std.proofs.lemmas.List.{drop_more, take_rest}
-use Rattle.span_times.specs.Measure.{opens}
+use Rattle.span_times.specs.Measure.{found_or, opens, since_opening}
 use Rattle.span_times.specs.declared.happening.Point.{Point}
-use Rattle.span_otlp.specs.Otlp.{found_or, since_opening}
 
 -- what is found behind some points is found among all
 found_behind : (x i : ℕ) (ps : List Point) (f : Point) (found : List Point) → since_opening x (drop i ps) ≡ f ∷ found → since_opening x ps ≡ f ∷ found

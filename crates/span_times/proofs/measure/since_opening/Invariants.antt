@@ -1,7 +1,7 @@
 use Rattle.std.proofs.Common.{◌≡◌, [], drop}
 use Rattle.span_core.specs.Span.{number_of}
-use Rattle.span_otlp.specs.Otlp.{since_opening}
-use Rattle.span_otlp.proofs.otlp.since_opening.Given as goal
+use Rattle.span_times.specs.Measure.{since_opening}
+use Rattle.span_times.proofs.measure.since_opening.Given as goal
 
 -- none of those behind opens it
 abbrev pub invariant-loop-start : goal.invariant-loop-start
