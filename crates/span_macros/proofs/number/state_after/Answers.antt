@@ -27,4 +27,12 @@ unfolding write
 returns c =
     let n : ℕ = length c.args.bytes.now in
     let count : (n - 1) / 16 ≡ c.loop-at.at / 16 = omega (arith, c.loop-at.invariant.0, c.loop-at.invariant.1, c.loop-at-test.false) in
-    rw (lt-leb n 8 c.if-len-le8.false, count, ← c.loop-at.invariant.2, c.folded_multiply-2.ensures, c.read_u64-2.ensures, c.read_u64-3.ensures, c.saturating_sub.ensures)
+    rw (
+      lt-leb n 8 c.if-len-le8.false,
+      count,
+      ← c.loop-at.invariant.2,
+      c.folded_multiply-2.ensures,
+      c.read_u64-2.ensures,
+      c.read_u64-3.ensures,
+      c.saturating_sub.ensures,
+    )
