@@ -171,7 +171,7 @@ pub record IsInBand (width top bottom : ℕ) (area : Area) : Type 0 where
 -- a plan fits a picture of points: it is 48 high for each point at most, beside its head; boxes lie
 -- in the bands of their lanes; one that begins while another of its lane lasts lies in a row below
 -- that, if time never goes back; later times lie no further left; and nine steps of the axis reach
--- beyond the points, but three don't, where these take three nanoseconds
+-- beyond the points, but three don't, where these take three nanoseconds or more
 pub record FitsPicture (plan : Plan) (ps : List Point) (width : ℕ) : Type 0 where
   pub bottom : ℕ → ℕ
   pub low : plan.height ≤ 56 + 48 * length ps

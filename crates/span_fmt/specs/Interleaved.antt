@@ -1,5 +1,4 @@
--- A tree's lines, with the spans round a line again where it is of another lane than the line before
--- it.
+-- A tree's lines, with the spans round a line again where the line before is of another lane.
 use Rattle.std.specs.Prelude.{◌≡◌, ◌≢◌, ◌==◌, not, if◌then◌else◌, ℕ, Bool, false, List, [], ◌∷◌, ◌++◌, Option, None, Some, codes, flat_map, reverse}
 use Rattle.std.specs.Option.{option_map}
 use Rattle.span_core.specs.Span.{number_of}
@@ -24,7 +23,7 @@ spans_about other v = []
 abbrev pub round_text : Naming → View → ℕ → List ℕ
 round_text names v x = span_text names (codes "|") x [] v
 
--- the same line, of the span that a reference is to
+-- the line round another of the span that a reference is to
 abbrev pub reference_text : {R : Type 0} → Naming → View → Reference R → List ℕ
 reference_text names v r = round_text names v r.id
 
@@ -37,7 +36,7 @@ abbrev pub is_other : Option ℕ → ℕ → Bool
 is_other None lane = false
 is_other (Some last) lane = not (last == lane)
 
--- a line behind this, and nothing where there is no line
+-- a line with a context in front of it, and nothing where there is no line
 abbrev pub behind : List ℕ → List ℕ → List ℕ
 behind context [] = []
 behind context (b ∷ bytes) = context ++ (b ∷ bytes)
@@ -68,7 +67,7 @@ pub record GivesInterleaved (x : InterleavedForm) (e : Notice) (v : View) (line 
   pub last : last_lane y ≡ next_lane (last_lane x) line v.lane
   pub names : lanes_named y ≡ lanes_named x
 
--- how a form whose lanes interleave gives lines
+-- how an `InterleavedForm` gives lines
 abbrev pub interleaved_gives : FormSteps InterleavedForm
 interleaved_gives = GivesInterleaved
 

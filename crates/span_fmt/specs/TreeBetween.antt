@@ -32,12 +32,12 @@ notice_texts names (OnClose id) v = span_texts names (number_of id) [] v
 notice_texts names (OnEvent e) v = line_texts names (event_values e) v
 notice_texts names other v = []
 
--- a program has no quote in its own names: of a span, where a view shows it, and of these fields
+-- no quote stands in a span's name and target, where a view shows it, nor in names of these fields
 pub record IsBareSpan (x : ℕ) (values : List (Bor (List ℕ) × FieldValue)) (v : View) : Type 0 where
   pub site : IfSome (metadata_shown x v) (λ m. IsBareSite m)
   pub fields : AreBare values
 
--- a program has no quote in those of its names that a tree's line of a notice shows
+-- no quote stands in the names and targets that a tree's line of a notice shows
 abbrev pub IsBareNotice : Notice → View → Type 0
 IsBareNotice (OnNewSpan attrs id) v = IsBareSpan (number_of id) (values_of attrs) v
 IsBareNotice (OnRecord id values) v = IsBareSpan (number_of id) (recorded_values values) v

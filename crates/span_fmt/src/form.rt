@@ -17,7 +17,8 @@ pub trait Form<S: Subscriber> {
     /// How the form goes on where it finds no memory.
     ghost misses: { FormMisses Self };
 
-    /// The line of a notice, with its line feed, or an empty text where nothing is to be written.
+    /// The line of a notice, or several that go together, with its line feed; an empty text where
+    /// nothing is to be written.
     fn line(
         &mut self,
         notice: Notice<'_, '_>,

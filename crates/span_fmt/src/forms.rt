@@ -32,7 +32,8 @@ impl TreeForm {
         }
     }
 
-    /// Gives a lane a name, which lines show from now on; an empty one is none.
+    /// Gives a lane a name, which lines show; an empty one is none. Do so before the form goes into a
+    /// `Stream`.
     pub fn name_lane(&mut self, lane: Lane, name: &str) -> Result<(), AllocError>
         ensures named { OnOk result
             (names_by_tree self.new ≡ with_text lane.0 name.now (names_by_tree self.old)) }
@@ -90,7 +91,8 @@ impl LinesForm {
         }
     }
 
-    /// Gives a lane a name, which lines show from now on; an empty one is none.
+    /// Gives a lane a name, which lines show; an empty one is none. Do so before the form goes into a
+    /// `Stream`.
     pub fn name_lane(&mut self, lane: Lane, name: &str) -> Result<(), AllocError>
         ensures named { OnOk result
             (names_by_form self.new ≡ with_text lane.0 name.now (names_by_form self.old)) }

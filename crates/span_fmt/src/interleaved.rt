@@ -15,10 +15,13 @@ use span_core::Lane;
 use span_registry::{ContextMut, Notice, Scope, Subscriber, laws};
 use std::alloc::{AllocError, Global};
 
-/// The lines of a `Tree`, and in front of one of another lane than the line before it a line of
-/// each span round it that its own context shows, from the root on, marked by `|`.
+/// The lines of a `Tree`. One of another lane than the line given before it stands behind a line of
+/// each span round it that its own context shows: from the root on, with the mark `|`, and without
+/// values. With the depth these grow by its square.
 ///
-/// So whoever reads on sees where in its tree the lane is.
+/// Where the line before was lost on its way to a writer, or is of the same lane but elsewhere in
+/// the tree, no spans are shown again. All that is given of a notice is one line to a `Stamped` or a
+/// `Painted`: the time stands in front of the first, and all have the notice's colour.
 #[derive(Drop)]
 pub struct InterleavedForm {
     alloc: Global,
@@ -27,7 +30,7 @@ pub struct InterleavedForm {
 }
 
 impl InterleavedForm {
-    /// The lines of a `Tree` that has no names of lanes. The first is behind no other.
+    /// The lines of a `Tree` that has no names of lanes. In front of the first no spans are shown.
     pub fn new(alloc: Global) -> InterleavedForm
         ensures names { lanes_named result ≡ nothing_known }
         ensures last { last_lane result ≡ None }
@@ -39,7 +42,8 @@ impl InterleavedForm {
         }
     }
 
-    /// Gives a lane a name, which lines show from now on; an empty one is none.
+    /// Gives a lane a name, which lines show; an empty one is none. Do so before the form goes into a
+    /// `Stream`.
     pub fn name_lane(&mut self, lane: Lane, name: &str) -> Result<(), AllocError>
         ensures named { OnOk result
             (lanes_named self.new ≡ with_text lane.0 name.now (lanes_named self.old)) }

@@ -9,7 +9,7 @@ use span_core::Lane;
 use std::alloc::{AllocError, Global};
 use std::collections::BTreeMap;
 
-/// Names of lanes, by the lanes' numbers.
+/// Names of lanes, by the lanes' numbers. Lanes that share a name look alike in lines.
 ///
 /// Stands for the names that threads have in Rust.
 #[derive(Drop)]

@@ -42,14 +42,15 @@ pub fn a_quoted_text_ends_at_its_quote()
 
 /// What a line of `Lines` has between its quotes are the texts that it tells, in order, whatever
 /// they say: none ends early, or poses as another. So of lines that are the same the texts are.
-/// Names and floats' texts, which are the program's own, are to have no quotes.
+/// Targets, names of callsites and fields, and floats' texts, which are the program's own, are to
+/// have no quotes.
 pub fn lines_tell_their_texts()
     ensures { LinesTellTheirTexts }
 {}
 
-/// What a line of `Tree` has between its quotes are the texts that it tells, in order, whatever
-/// they say. So of lines that are the same the texts are. Names and floats' texts, which are the
-/// program's own, are to have no quotes.
+/// What a line of `Tree` or `TreeForm` has between its quotes are the texts that it tells, in order,
+/// whatever they say. So of lines that are the same the texts are. Targets, names of callsites and
+/// fields, and floats' texts, which are the program's own, are to have no quotes.
 pub fn trees_tell_their_texts()
     ensures { TreesTellTheirTexts }
 {}

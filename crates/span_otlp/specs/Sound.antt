@@ -12,11 +12,11 @@ use Rattle.span_times.specs.declared.happening.Happening.{Happening}
 abbrev pub has_opened : List Happening → ℕ → Bool
 has_opened hs x = list_any (opens x) hs
 
--- it closed, and didn't open since
+-- the span with this number closed, and didn't open since
 abbrev pub has_closed : List Happening → ℕ → Bool
 has_closed hs x = fold (closed_after x) false hs
 
--- it opened, and didn't close since
+-- the span with this number opened, and didn't close since
 abbrev pub IsOpen : List Happening → ℕ → Type 0
 IsOpen hs x = (has_opened hs x ≡ true) × (has_closed hs x ≡ false)
 
@@ -37,6 +37,7 @@ abbrev pub CanFollow : List Happening → List Happening → Type 0
 CanFollow before [] = ⊤
 CanFollow before (h ∷ hs) = CanHappen before h × CanFollow (before ++ h ∷ []) hs
 
--- all of this can happen from the beginning on, as it does in a registry
+-- all of this can happen from the beginning on; a registry makes no other happenings, though no
+-- clause says so
 abbrev pub AreSound : List Happening → Type 0
 AreSound hs = CanFollow [] hs

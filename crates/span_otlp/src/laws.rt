@@ -15,20 +15,20 @@ pub fn parents_are_read_again()
     ensures again { ParentsAreReadAgain }
 {}
 
-/// A child is in its parent's trace, as it has its root, and a span without a parent is in its own.
+/// A child has its parent's root, and so is in its trace; a span without a parent is its own root.
 pub fn a_child_is_in_its_parents_trace()
     ensures below { ChildrenHaveTheirParentsRoot }
     ensures own { RootsAreTheirOwn }
 {}
 
 /// Whether spans are handed out at once or in parts, as they close, each is in the same trace: it
-/// has the same root.
+/// has the same root. A link to a span that was handed out before may say another.
 pub fn parts_keep_traces()
     ensures { PartsKeepRoots }
 {}
 
-/// No trace has the number 0, unless that was given as the one trace. Each root has a trace of its
-/// own, and so has each seed.
+/// No trace has the number 0, unless that was given as the one trace. By seeds each root has a trace
+/// of its own, and no two seeds share one.
 pub fn traces_have_numbers()
     ensures one { (ids : OneTrace) → 0 < ids.0
         → GivesNoZero (⟦<OneTrace as TraceIds>⟧.trace_of ids) }

@@ -15,15 +15,16 @@ use std::alloc::{AllocError, Global};
 use std::marker::Model;
 use std::mem;
 
-/// What points refer to: what their callsites are called, the fields that they came with, and the
-/// spans above theirs that were still open.
+/// What points refer to: what their callsites are called, the fields that they came with, and spans
+/// that were still open.
 #[derive(Clone, Copy)]
 pub struct Table<'a> {
     /// The sites of their callsites.
     pub sites: &'a [Site],
     /// The fields that they came with.
     pub fields: &'a [OwnedField],
-    /// The openings of spans that aren't among the points, the outer ones first.
+    /// The openings of spans that stay open and aren't among the points, the outer ones first:
+    /// exports to OpenTelemetry find roots by them, others don't read them.
     pub above: &'a [Happening],
 }
 

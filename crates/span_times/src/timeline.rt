@@ -85,7 +85,8 @@ impl<C: Now> Timeline<C> {
     }
 
     /// Hands out all that it keeps, and begins anew on its clock. Where it had failed, it has no
-    /// longer: ask `failed` before.
+    /// longer: ask `failed` before. What comes later of spans that are open has no opening then:
+    /// exports leave these spans out, and take those below them for roots.
     pub fn take(&mut self) -> Taken
         ensures { TakesAll C.latest result self.old self.new }
     {
