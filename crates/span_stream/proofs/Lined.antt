@@ -6,6 +6,7 @@ use Rattle.json.specs.Lex.{tokens}
 use Rattle.json.specs.Print.{print}
 use Rattle.serde_json.specs.Data.{Data, Members, depth, members_depth}
 use Rattle.serde_json.specs.Read.{max_depth, read}
+use Rattle.serde_json.specs.Written.{IsInOrder}
 use Rattle.span_core.specs.Event.{event_parent}
 use Rattle.span_core.specs.Filters.{FilterSet}
 use Rattle.span_core.specs.declared.event.Event.{Event}
@@ -73,11 +74,11 @@ object_plainly s lane mask law stamp e known names =
 -- an object of an event is shallow, so its text reads back, and is made inert
 pub line_made : (stamp : List ℕ) (e : Event) (v : View) (known : SpanMembers) (names : Naming) (text line : List ℕ) (made : Data)
     → AreFlat known → made ≡ event_object stamp e v known names → (depth made ≤ max_depth → read text ≡ Some made)
-    → text ≡ print (tokens text) → IsUtf8 text → line ≡ inert text ++ codes "\n" → IsLineOf (event_object stamp e v known names) line
-line_made stamp e v known names text line made flat is reads compact utf8 grown =
+    → IsInOrder text made → text ≡ print (tokens text) → IsUtf8 text → line ≡ inert text ++ codes "\n" → IsLineOf (event_object stamp e v known names) line
+line_made stamp e v known names text line made flat is reads order compact utf8 grown =
     let shallow =
     event_depth stamp
     e v.lane (names v.lane) (objects_around e v known) (all_shallow (seen_object v known) (λ x. span_depth _ (known x) (flat x)) (reverse (spans_round e v))) in
     let few : depth made ≤ max_depth = omega (arith, shallow, ap depth is) in
-    let means = inert_means text (event_object stamp e v known names) utf8 compact (reads few ∙ ap Some is) in
-    (inert text, means.0, means.1, inert_is text utf8, grown)
+    let means = inert_means text (event_object stamp e v known names) utf8 compact (reads few ∙ ap Some is) (subst (IsInOrder text) is order) in
+    (inert text, means.0, means.1, means.2, inert_is text utf8, grown)

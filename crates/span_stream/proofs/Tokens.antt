@@ -23,6 +23,7 @@ use Rattle.json.proofs.Printed.Trees.{ArePrintable-json_tokens}
 use Rattle.json.proofs.Unique.Spelling.{value-json_tokens_back}
 use Rattle.serde_json.specs.Data.{Data}
 use Rattle.serde_json.specs.Read.{max_depth, of_json, read}
+use Rattle.serde_json.specs.Written.{IsInOrder}
 use Rattle.span_stream.proofs.Characters.{escape_printable, inert-append, inert_behind, inert_nothing, is_printable, none_acts, printable_low, spells_string}
 use Rattle.span_stream.proofs.Characters.{utf8_before, utf8_behind}
 use Rattle.span_stream.proofs.Numbers.{number_printable}
@@ -247,12 +248,12 @@ of_value text d (Some (j, t ∷ r)) e found = absurd (cc)
 abbrev read_tokens : List Token → Option Data
 read_tokens ts = option_and_then of_json (option_and_then (λ p. if_last p.0 p.1) (value max_depth ts))
 
--- JSON that is made inert has the tokens, and so the value, that it had
-pub inert_means : (text : List ℕ) (d : Data) → IsUtf8 text → text ≡ print (tokens text) → read text ≡ Some d
-    → (read (inert text) ≡ Some d) × (inert text ≡ inert (print (tokens (inert text))))
-inert_means text d u compact is =
+-- JSON that is made inert has the tokens, and so the value and the order, that it had
+pub inert_means : (text : List ℕ) (d : Data) → IsUtf8 text → text ≡ print (tokens text) → read text ≡ Some d → IsInOrder text d
+    → (read (inert text) ≡ Some d) × IsInOrder (inert text) d × (inert text ≡ inert (print (tokens (inert text))))
+inert_means text d u compact is order =
     let same = tokens_inert text u compact (of_value text d (value max_depth (tokens text)) refl is) in
-    (ap read_tokens same ∙ is, ap inert (compact ∙ ap print (sym same)))
+    (ap read_tokens same ∙ is, (order.0, same ∙ order.1, order.2), ap inert (compact ∙ ap print (sym same)))
 
 -- ---- it is inert
 

@@ -6,6 +6,7 @@ use Rattle.json.specs.Lex.{tokens}
 use Rattle.json.specs.Print.{print}
 use Rattle.serde_json.specs.Data.{Data, no_members}
 use Rattle.serde_json.specs.Read.{read}
+use Rattle.serde_json.specs.Written.{IsInOrder}
 use Rattle.span_core.specs.Metadata.{name_of}
 use Rattle.span_core.specs.Span.{number_of, recorded_values, values_of}
 use Rattle.span_core.specs.declared.event.Event.{Event}
@@ -58,12 +59,13 @@ abbrev pub event_object : List ℕ → Event → View → SpanMembers → Naming
 event_object stamp e v known names =
     event_data stamp e v.lane (names v.lane) (objects_around e v known)
 
--- A line is JSON that reads as this, and a line feed. In the JSON nothing stands between tokens, and
--- no character may act on a terminal: each that would is escaped.
+-- A line is JSON that reads as this, with each member once and in order, and a line feed. In the
+-- JSON nothing stands between tokens, and no character may act on a terminal: each that would is
+-- escaped.
 abbrev pub IsLineOf : Data → List ℕ → Type 0
 IsLineOf d line =
-    (text : List ℕ) × (read text ≡ Some d) × (text ≡ inert (print (tokens text))) × IsInert text
-    × (line ≡ text ++ codes "\n")
+    (text : List ℕ) × (read text ≡ Some d) × IsInOrder text d
+    × (text ≡ inert (print (tokens text))) × IsInert text × (line ≡ text ++ codes "\n")
 
 module _ {C : Type 0} where
   -- what a form of JSON knows of spans

@@ -29,5 +29,6 @@ returns g c =
     (c.in_ok-spans.ensures ∙ objects_found registry ctx c.ctx-look.result e c.event_scope.result known c.ctx-look.ensures c.event_scope.ensures) in
     let json = c.in_ok-json.json in
     line_made stamp
-    e v known names (string_bytes json) _ (view c.in_ok-object.object) c.requires is c.in_ok-json.ensures.reads_back c.in_ok-json.ensures.compact
+    e v known names
+    (string_bytes json) _ (view c.in_ok-object.object) c.requires is c.in_ok-json.ensures.reads_back c.in_ok-json.ensures.order c.in_ok-json.ensures.compact
     (IsUtf8-string_bytes json) (c.in_ok-push_str.ensures.bytes ∙ ap (λ t. t ++ codes "\n") c.in_ok-line.ensures)
