@@ -1,21 +1,21 @@
 //! The values that are held of one span.
 ghost use Rattle.std.specs.Prelude.{◌≡◌, [], ◌∷◌, IfErr, IfOk, OnErr, OnOk};
 ghost use Rattle.serde_json.specs.Data.{Members, no_members};
-ghost use Rattle.serde_json.specs.View.{members_view, view};
-ghost use Rattle.span_stream.specs.Held.{members_held, members_in, with_waiting};
+ghost use Rattle.serde_json.specs.View.{members_view};
+ghost use Rattle.span_stream.specs.Held.{members_held, with_waiting};
 ghost use Rattle.span_stream.specs.Values.{with_value, with_values};
 
 use crate::values::value_of;
 use serde_json::{Map, Value, put};
 use span_core::FieldValue;
 use std::alloc::{AllocError, Global};
-use std::mem;
 
-/// A span's values as members of an object, and beside it those of the span's last record, which
-/// wait to be moved there. So a record costs what it gives, and adds all of it or nothing.
+/// A span's values as members of an object, and beside it those that it was given last, which wait
+/// to be moved there: the next record does that before its own are added. A record adds all of its
+/// values or none.
 #[derive(Drop)]
 pub(crate) struct Held {
-    settled: Value,
+    settled: Map<String, Value>,
     /// Of these the last is moved first.
     waiting: Vec<(String, Value)>,
 }
@@ -26,7 +26,7 @@ impl Held {
         ensures { members_held result ≡ with_waiting waiting.items no_members }
     {
         Held {
-            settled: Value::Object(Map::new(alloc)),
+            settled: Map::new(alloc),
             waiting,
         }
     }
@@ -36,7 +36,7 @@ impl Held {
         ensures { IfOk result
             (λ members. members_view members.entries ≡ members_held self.now) }
     {
-        let mut members = settled_copy(alloc, &self.settled)?;
+        let mut members = copy_of(alloc, &self.settled)?;
         put_waiting(&mut members, alloc, &self.waiting)?;
         Ok(members)
     }
@@ -47,39 +47,22 @@ impl Held {
             (members_held self.new ≡ with_waiting waiting.items (members_held self.old)) }
         ensures unchanged { OnErr result (members_held self.new ≡ members_held self.old) }
     {
-        self.settle()?;
+        move_all(&mut self.settled, &mut self.waiting)?;
         self.waiting = waiting;
         Ok(())
-    }
-
-    /// Moves what waits to the object. Where memory is refused, the rest waits on.
-    fn settle(&mut self) -> Result<(), AllocError>
-        ensures same { members_held self.new ≡ members_held self.old }
-        ensures none { OnOk result (self.new.waiting.items ≡ []) }
-    {
-        match mem::replace(&mut self.settled, Value::Null) {
-            Value::Object(mut settled) => {
-                let moved = move_all(&mut settled, &mut self.waiting);
-                self.settled = Value::Object(settled);
-                moved
-            }
-            other => {
-                self.settled = other;
-                Err(AllocError) // It is an object.
-            }
-        }
     }
 }
 
 /// The members of an object, copied.
-fn settled_copy(alloc: Global, settled: &Value) -> Result<Map<String, Value>, AllocError>
+fn copy_of(alloc: Global, settled: &Map<String, Value>) -> Result<Map<String, Value>, AllocError>
     ensures { IfOk result
-        (λ members. members_view members.entries ≡ members_in (view settled.now)) }
+        (λ members. members_view members.entries ≡ members_view settled.now.entries) }
 {
-    match settled.clone()? {
-        Value::Object(members) => Ok(members),
-        _ => Ok(Map::new(alloc)),
+    let mut members = Map::new(alloc);
+    for (name, value) in settled.iter() {
+        put(&mut members, alloc, name.as_str(), value.clone()?)?;
     }
+    Ok(members)
 }
 
 /// Puts copies of values that wait into an object.
