@@ -4,6 +4,7 @@ mod Given
 mod Holding
 mod Lined
 mod Numbers
+mod Present
 mod Shallow
 mod Spelling
 mod Timed

@@ -1,5 +1,5 @@
 -- A line of JSON for each event.
-use Rattle.std.specs.Prelude.{◌≡◌, ℕ, List, [], ◌++◌, Some, codes, map, reverse}
+use Rattle.std.specs.Prelude.{◌≡◌, ◌≢◌, ⊤, ℕ, List, [], ◌++◌, Some, codes, map, reverse}
 use Rattle.std.specs.FinMap.{get}
 use Rattle.std.specs.Option.{option_map_or}
 use Rattle.json.specs.Lex.{tokens}
@@ -7,6 +7,7 @@ use Rattle.json.specs.Print.{print}
 use Rattle.serde_json.specs.Data.{Data, no_members}
 use Rattle.serde_json.specs.Read.{read}
 use Rattle.serde_json.specs.Written.{IsInOrder}
+use Rattle.span_core.specs.Field.{present}
 use Rattle.span_core.specs.Metadata.{name_of}
 use Rattle.span_core.specs.Span.{number_of, recorded_values, values_of}
 use Rattle.span_core.specs.declared.event.Event.{Event}
@@ -39,6 +40,13 @@ members_after other known = known
 abbrev pub members_still : Notice → SpanMembers → SpanMembers
 members_still (OnClose id) known = with_members (number_of id) no_members known
 members_still other known = known
+
+-- memory is needed for the line of an event, and for values that a span is given
+abbrev pub NeedsMemory : Notice → Type 0
+NeedsMemory (OnEvent e) = ⊤
+NeedsMemory (OnNewSpan attrs id) = present (values_of attrs) ≢ []
+NeedsMemory (OnRecord id values) = present (recorded_values values) ≢ []
+NeedsMemory other = ⊥
 
 -- the object of the span that a reference is to
 abbrev pub reference_object : {R : Type 0} → SpanMembers → Reference R → Data
@@ -111,8 +119,9 @@ module _ {C : Type 0} (latest : C → ℕ) (reads : C → ℕ → C → Type 0) 
   MayRead (OnEvent e) c d = (time : ℕ) × Reads latest reads c time d
   MayRead other c d = d ≡ c
 
-  -- where memory is refused, nothing is known that wasn't before
+  -- memory is refused only where it is needed; then nothing is known that wasn't before
   pub record MissesJson (x : JsonForm C) (e : Notice) (v : View) (y : JsonForm C) : Type 0 where
+    pub refused : NeedsMemory e
     pub clock : MayRead e (clock_of x) (clock_of y)
     pub known : known_of y ≡ members_still e (known_of x)
     pub style : style_of y ≡ style_of x

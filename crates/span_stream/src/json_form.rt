@@ -42,7 +42,8 @@ impl<C: Drop> Drop for JsonForm<C> {
 }
 
 impl<C: Now> JsonForm<C> {
-    ghost use Rattle.std.specs.Prelude.{[], IfOk, OnErr, OnOk, string_bytes};
+    ghost use Rattle.std.specs.Prelude.{◌≢◌, [], IfOk, OnErr, OnOk, string_bytes};
+    ghost use Rattle.span_core.specs.Field.{present};
     ghost use Rattle.span_core.specs.Span.{number_of};
     ghost use Rattle.span_fmt.specs.Known.{nothing_known, with_text};
     ghost use Rattle.span_stream.specs.Json.{clock_of, known_of, names_of, style_of};
@@ -93,6 +94,7 @@ impl<C: Now> JsonForm<C> {
         ensures style { style_of self.new ≡ style_of self.old }
         ensures names { names_of self.new ≡ names_of self.old }
         ensures unchanged { OnErr result (known_of self.new ≡ known_of self.old) }
+        ensures refused { OnErr result (present values.now ≢ []) }
     {
         match self.members.add(self.alloc, id, values) {
             Ok(_) => Ok(String::new(self.alloc)),

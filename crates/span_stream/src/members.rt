@@ -1,12 +1,14 @@
 //! The values that spans were given, as members of objects in JSON.
-ghost use Rattle.std.specs.Prelude.{◌≡◌, IfOk, OnErr, OnOk};
+ghost use Rattle.std.specs.Prelude.{◌≡◌, ◌≢◌, [], IfOk, OnErr, OnOk};
 ghost use Rattle.serde_json.specs.Data.{no_members};
 ghost use Rattle.serde_json.specs.View.{members_view};
+ghost use Rattle.span_core.specs.Field.{present};
 ghost use Rattle.span_core.specs.Span.{number_of};
 ghost use Rattle.span_stream.specs.Members.{members_kept, nothing_kept, with_members};
 ghost use Rattle.span_stream.specs.Values.{with_values};
 
 use crate::held::{Held, waiting_of};
+use crate::values::are_absent;
 use serde_json::{Map, Value};
 use span_core::{FieldValue, Id};
 use std::alloc::{AllocError, Global};
@@ -39,7 +41,7 @@ impl Members {
         kept.members(alloc)
     }
 
-    /// Adds values of a span to what is known.
+    /// Adds values of a span to what is known. Where no field has a value, no memory is needed.
     pub(crate) fn add(
         &mut self,
         alloc: Global,
@@ -50,7 +52,11 @@ impl Members {
             (with_values values.now (members_kept self.old (number_of id)))
             (members_kept self.old)) }
         ensures unchanged { OnErr result (members_kept self.new ≡ members_kept self.old) }
+        ensures refused { OnErr result (present values.now ≢ []) }
     {
+        if are_absent(values) {
+            return Ok(());
+        }
         let waiting = waiting_of(alloc, values)?;
         if let Some(held) = self.kept.get_mut(&id.into_u64()) {
             return held.add(waiting);

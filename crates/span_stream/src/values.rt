@@ -1,6 +1,7 @@
 //! Values of fields as members of objects in JSON.
-ghost use Rattle.std.specs.Prelude.{◌≡◌, IfOk, OnOk};
+ghost use Rattle.std.specs.Prelude.{◌≡◌, ◌↔◌, [], IfOk, IsTrue, OnOk};
 ghost use Rattle.serde_json.specs.View.{members_view, view};
+ghost use Rattle.span_core.specs.Field.{present};
 ghost use Rattle.span_stream.specs.Values.{value_data, with_value, with_values};
 
 use serde_json::{Map, Value, put};
@@ -37,6 +38,13 @@ fn put_value(
         return Ok(());
     }
     put(members, alloc, name, value_of(alloc, value)?)
+}
+
+/// Whether no field has a value.
+pub(crate) fn are_absent(values: &[(&'static str, FieldValue<'_>)]) -> bool
+    ensures { IsTrue result ↔ present values.now ≡ [] }
+{
+    values.iter().all(|field| field.1.is_absent())
 }
 
 /// A value in JSON.

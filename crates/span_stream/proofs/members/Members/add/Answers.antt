@@ -2,7 +2,25 @@ use Rattle.std.proofs.Common.{refl, rules, subst}
 use Rattle.std.specs.Prelude.{IsSome}
 use Rattle.span_core.specs.Span.{number_of}
 use Rattle.span_stream.proofs.Holding.{held_more, held_new, held_still}
+use Rattle.span_stream.proofs.Present.{none_added, refused_with, some_present}
+use Rattle.span_stream.specs.Members.{members_kept}
 use Rattle.span_stream.proofs.members.Members.add.Goals as goal
+
+pub returns-then-are_absent : goal.returns-then-are_absent
+returns-then-are_absent c = record {
+  added = none_added (number_of c.args.id) c.args.values.now (members_kept c.args.self.now) (c.are_absent.ensures.0 c.if-are_absent.true);
+  unchanged = tt;
+  refused = tt;
+}
+
+pub returns-in_err-waiting-clause-refused : goal.returns-in_err-waiting-clause-refused
+returns-in_err-waiting-clause-refused c = refused_with c.from_residual.result c.are_absent.ensures c.if-are_absent.false
+
+pub returns-in-Some-clause-refused : goal.returns-in-Some-clause-refused
+returns-in-Some-clause-refused c = refused_with c.add.result c.are_absent.ensures c.if-are_absent.false
+
+pub returns-clause-refused : goal.returns-clause-refused
+returns-clause-refused c = some_present c.are_absent.ensures c.if-are_absent.false
 
 pub returns-in-Some-clause-added : goal.returns-in-Some-clause-added
 returns-in-Some-clause-added c =
