@@ -24,7 +24,7 @@ plain_members stamp m values =
     (put (codes "level") (string (level_text (level_of m)))
     (put (codes "timestamp") (string stamp) no_members)))
 
--- these members, and a lane's number and its name, where it has one
+-- these members, and of a lane that has a name its number and name
 abbrev pub with_lane : ℕ → List ℕ → Members → Members
 with_lane lane [] ms = ms
 with_lane lane (b ∷ name) ms =

@@ -68,6 +68,7 @@ impl<C: Now> JsonForm<C> {
     }
 
     /// Gives a lane a name, which lines of its events say beside its number; an empty one is none.
+    /// Do so before the form goes into a `Stream`.
     ///
     /// Stands for `tracing_subscriber::fmt::format::Format::with_thread_names`.
     pub fn name_lane(&mut self, lane: Lane, name: &str) -> Result<(), AllocError>

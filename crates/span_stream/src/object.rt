@@ -82,7 +82,7 @@ fn fields_of(
     Ok(Value::Object(fields))
 }
 
-/// Puts a lane's number and its name into an object, if it has a name.
+/// Puts a lane's number and name into an object, where the lane has a name.
 fn put_lane(
     members: &mut Map<String, Value>,
     alloc: Global,
