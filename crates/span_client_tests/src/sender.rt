@@ -440,8 +440,8 @@ fn rejected_in(alloc: Global, answer: &'static [u8]) -> Result<u64, Fail> {
 #[test]
 fn partial_successes_are_read(rt: HostRuntime) -> Result<(), Fail> {
     let alloc = rt.alloc();
-    let said =
-        b"HTTP/1.1 200 OK\r\nContent-Length: 61\r\n\r\n{\"partialSuccess\":{\"rejectedSpans\":\"3\",\"errorMessage\":\"old\"}}";
+    let said = b"HTTP/1.1 200 OK\r\nContent-Length: 61\r\n\r\n{\"partialSuccess\":\
+        {\"rejectedSpans\":\"3\",\"errorMessage\":\"old\"}}";
     let came = post_to(alloc, Some(said))?;
     assert!(rt; head_of(&came) == Some((200, None)));
     assert!(rt; came.answer.rejected() == 3);

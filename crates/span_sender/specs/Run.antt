@@ -85,8 +85,8 @@ abbrev pub posts : Event → List (List ℕ × Answer)
 posts (Tried batch answer fate now) = (body_of batch, answer) ∷ []
 posts other = []
 
--- no span is lost: what was taken is, in order, what was let go and what is held; each that was
--- pushed is held or was accepted, refused or dropped, once, and is counted as that
+-- no span is lost: what was taken is, in order, what was let go and what is held; as many as were
+-- pushed are held, or were accepted, refused or dropped, and are counted as that
 pub record LosesNone (events : List Event) (new : Batches) : Type 0 where
   pub order : flat_map took events ≡ flat_map let_go events ++ held_by new
   pub once : sum_by pushed_by events

@@ -10,9 +10,10 @@ pub enum Answer {
     /// The collector answered.
     Status {
         code: u16,
-        /// The seconds after which to come again, where it says these.
+        /// The seconds after which to come again, where it says these. It is followed, however
+        /// long: a poster of your own may cap it.
         retry_after: Option<u64>,
-        /// How many of the spans it rejected, where it took the others.
+        /// How many spans it rejected, where it took the others.
         rejected: u64,
     },
     /// No answer came: the connection failed.
@@ -22,8 +23,8 @@ pub enum Answer {
 /// What becomes of a batch.
 #[derive(Clone, Copy, Debug)]
 pub enum Fate {
-    /// The collector has the spans, but those that its answer rejected: these are given up and
-    /// counted too.
+    /// The collector has the spans, but those that its answer rejected: these are given up and count
+    /// as refused.
     Accepted,
     /// The spans are given up and counted.
     Refused,
@@ -32,7 +33,7 @@ pub enum Fate {
 }
 
 impl Answer {
-    /// Whether the collector has taken the spans.
+    /// Whether the collector has taken the spans, but those that it rejected.
     pub fn is_accepted(self) -> bool
         ensures { result ≡ is_accepted self }
     {
@@ -42,7 +43,7 @@ impl Answer {
         }
     }
 
-    /// How many spans it rejected.
+    /// How many spans it rejected, where it took the others.
     pub fn rejected(self) -> u64
         ensures { result ≡ rejected_by self }
     {

@@ -30,8 +30,9 @@ pub enum Action {
     Post,
 }
 
-/// Spans that wait for a collector, each as the text of an export request. They go in batches, one
-/// at a time, and a batch is held until it was accepted, refused or given up.
+/// Spans that wait for a collector, each as the text of an export request of one span: what a
+/// collector rejects is counted in spans. They go in batches, one at a time, and a batch is held
+/// until it was accepted, refused or given up.
 ///
 /// It reads no clock: times are nanoseconds by a clock of the caller's.
 #[derive(Drop)]

@@ -1,11 +1,12 @@
 //! The head of an answer by HTTP/1.1.
-ghost use Rattle.std.specs.Prelude.{◌≡◌, ◌≤◌, All, drop, length, map, option_and_then, option_copied};
+ghost use Rattle.std.specs.Prelude.{◌≡◌, ◌≤◌, ◌==◌, ◌||◌, All, drop, length, map, option_and_then, option_copied};
 ghost use Rattle.httparse.specs.Grammar.{ResponseHead};
 ghost use Rattle.httparse.specs.Spans.{IsHeaderWithin, header_bytes};
-ghost use Rattle.span_sender.specs.Reply.{body_of, is_whole, number_in, value_named};
+ghost use Rattle.span_sender.specs.Reply.{answer_body, is_whole, number_in, value_named};
 ghost use Rattle.span_sender.specs.private.Head.{Hears, IsHead};
 
-use crate::number::number_of;
+use crate::answer::Answer;
+use crate::number::number_in;
 use httparse::Status;
 use httparse::spans::{EMPTY_HEADER_SPAN, HeaderSpan, parse_response};
 
@@ -18,7 +19,7 @@ pub(crate) struct Head {
     pub code: u16,
     /// The seconds after which to come again.
     pub retry_after: Option<u64>,
-    /// Whether the body comes in chunks: then it isn't read.
+    /// Whether the body has a transfer coding, as chunks: then it isn't read.
     pub has_chunks: bool,
     /// How many bytes the body has, where the head says so: else it ends with the connection.
     pub body_length: Option<u64>,
@@ -78,19 +79,37 @@ fn number_named(bytes: &[u8], fields: &[HeaderSpan], name: &[u8]) -> Option<u64>
     ensures { result ≡ option_and_then number_in
         (value_named name.now (map (header_bytes bytes.now) fields.now)) }
 {
-    number_of(value_named(bytes, fields, name)?)
+    number_in(value_named(bytes, fields, name)?)
 }
 
 impl Head {
+    /// The answer that has this head, and rejects so many spans.
+    pub(crate) fn answer(self, rejected: u64) -> Answer
+        ensures { result ≡ Answer.Status self.code self.retry_after rejected }
+    {
+        Answer::Status {
+            code: self.code,
+            retry_after: self.retry_after,
+            rejected,
+        }
+    }
+
+    /// Whether no body is read: a 204 has none, and one with a transfer coding isn't read.
+    fn skips_body(self) -> bool
+        ensures { result ≡ (self.code == 204 || self.has_chunks) }
+    {
+        self.code == 204 || self.has_chunks
+    }
+
     /// The body, as far as it came.
     pub(crate) fn body_in(self, bytes: &[u8]) -> &[u8]
         requires { self.len ≤ length bytes.now }
         ensures { (head : ResponseHead) → IsHead bytes.now self head
-            → result.now ≡ body_of head (drop self.len bytes.now) }
+            → result.now ≡ answer_body head (drop self.len bytes.now) }
     {
         let rest = &bytes[self.len..];
         match self.body_length {
-            _ if self.has_chunks => &rest[..0],
+            _ if self.skips_body() => &rest[..0],
             Some(length) if length < rest.len() as u64 => &rest[..length as usize],
             _ => rest,
         }
@@ -109,6 +128,6 @@ impl Head {
             Some(length) => length <= came,
             None => false,
         };
-        !is_success || self.has_chunks || has_all
+        !is_success || self.skips_body() || has_all
     }
 }

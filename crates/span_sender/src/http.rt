@@ -9,7 +9,9 @@ use crate::reply::{Reply, answer_in, read_answer};
 use std::alloc::{AllocError, Global};
 use std::io::{self, Error, ErrorKind, Read, Write};
 
-/// Makes connections to a collector. Who has the net implements it, with timeouts as it sees fit.
+/// Makes connections to a collector. Who has the net implements it, with timeouts as it sees fit:
+/// an answer may come a byte at a time, so let a connection's reads fail once it is too old, not
+/// only where one takes long.
 pub trait Connect {
     type Connection: Read + Write + Drop;
 
@@ -18,7 +20,11 @@ pub trait Connect {
 }
 
 /// Posts each request over a connection of its own: a failed one is an answer too, as is an answer
-/// that is no HTTP/1.1. Of a success the body counts too, as far as it comes.
+/// that is no HTTP/1.1. Of a success the body counts too, as far as it comes in the first 64 KiB of
+/// the answer; one in chunks isn't read, and so rejects none. An interim answer (1xx) is taken for
+/// the answer: its spans are refused.
+///
+/// No clause speaks of what it posts, or of its answers: the net is the caller's.
 #[derive(Drop)]
 pub struct HttpPoster<N> {
     net: N,
@@ -42,7 +48,8 @@ impl<N: Connect> HttpPoster<N> {
         }
     }
 
-    /// What the collector said last of spans that it rejected, or as a warning.
+    /// What the collector said last of spans that it rejected, or as a warning, but where that is
+    /// empty. It is as it came: escape it before it goes to a terminal.
     pub fn message(&self) -> Option<&str>
         ensures { option_copied result ≡ message_of self.now }
     {
@@ -58,12 +65,16 @@ impl<N: Connect> HttpPoster<N> {
         write_request(&mut connection, &head, body)?;
         let mut bytes = Vec::new(self.alloc);
         let end = read_answer(&mut connection, &mut bytes);
-        match answer_in(self.alloc, &bytes)? {
-            Some(reply) => Ok(reply),
-            None => {
+        match answer_in(self.alloc, &bytes) {
+            Ok(Some(reply)) => Ok(reply),
+            Ok(None) => {
                 end?;
                 Err(Error::new(ErrorKind::InvalidData, "no answer by HTTP/1.1"))
             }
+            Err(answer) => Ok(Reply {
+                answer,
+                message: None,
+            }),
         }
     }
 }
@@ -75,7 +86,7 @@ impl<N: Connect> Poster for HttpPoster<N> {
         let Ok(Reply { answer, message }) = self.exchange(body) else {
             return Answer::Failed;
         };
-        if message.is_some() {
+        if matches!(&message, Some(message) if !message.is_empty()) {
             self.message = message;
         }
         answer

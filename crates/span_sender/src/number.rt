@@ -4,7 +4,7 @@ ghost use Rattle.span_sender.specs.Reply.{number_in};
 ghost use Rattle.span_sender.specs.private.Number.{followed_by};
 
 /// The number that digits write, if there are nothing but digits and it fits 64 bits.
-pub(crate) fn number_of(digits: &[u8]) -> Option<u64>
+pub(crate) fn number_in(digits: &[u8]) -> Option<u64>
     ensures { result ≡ number_in digits.now }
 {
     if digits.is_empty() {

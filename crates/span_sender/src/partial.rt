@@ -5,7 +5,7 @@ ghost use Rattle.serde_json.specs.View.{view};
 ghost use Rattle.span_sender.specs.Reply.{fitting, json_in, message_in, number_said, partial_in, rejected_in};
 ghost use Rattle.span_sender.specs.private.Partial.{Says};
 
-use crate::number::number_of;
+use crate::number::number_in;
 use serde_json::Value;
 use std::alloc::{AllocError, Global};
 
@@ -61,7 +61,7 @@ fn spans_of(value: &Value) -> u64
         ≡ fitting (number_said (as_str (view value.now)) (as_number (view value.now))) }
 {
     let spans = match value.as_str() {
-        Some(digits) => number_of(digits.as_bytes()),
+        Some(digits) => number_in(digits.as_bytes()),
         None => value.as_u64(),
     };
     match spans {

@@ -18,8 +18,9 @@ pub struct Sender {
 }
 
 impl Sender {
-    /// Hands over a span. Says whether it was taken: else it is dropped and counted, as the queue
-    /// is full or the thread's guard has gone.
+    /// Hands over a span, as the text of an export request of one span: what a collector rejects is
+    /// counted in spans. Says whether it was taken: else it is dropped and counted, as the queue is
+    /// full or the thread's guard has gone.
     pub fn push(&mut self, span: String) -> bool
         ensures taken { IsTrue result → Hands self.old self.new span }
         ensures missed { IsFalse result → Misses self.old self.new }

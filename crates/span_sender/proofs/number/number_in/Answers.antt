@@ -1,7 +1,7 @@
 use Rattle.std.proofs.Common.{sym, ◌∙◌, ◌≡◌, None}
 use Rattle.span_sender.specs.Reply.{number_in}
 use Rattle.span_sender.proofs.Numbers.{none_at, nonempty, whole}
-use Rattle.span_sender.proofs.number.number_of.Goals as goal
+use Rattle.span_sender.proofs.number.number_in.Goals as goal
 
 pub returns-in_err-number : goal.returns-in_err-number
 returns-in_err-number c =

@@ -2,7 +2,7 @@ use Rattle.std.proofs.Common.{◌≡◌, ◌<◌, ◌^◌, drop}
 use Rattle.std.specs.Char.{is_ascii_digit}
 use Rattle.std.specs.List.{list_all}
 use Rattle.std.specs.Str.Parse.{digits_value, digits_value_after}
-use Rattle.span_sender.proofs.number.number_of.Given as goal
+use Rattle.span_sender.proofs.number.number_in.Given as goal
 
 -- the digits that are left write the rest of the number
 abbrev pub invariant-loop-digit : goal.invariant-loop-digit
