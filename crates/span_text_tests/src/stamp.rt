@@ -1,12 +1,12 @@
 //! Lines with times, in colours and in JSON: those of the worked run.
-use crate::fixture::in_use;
+use crate::fixture::put;
 use crate::text::{LANE, OF_EVENTS, OTHER_LANE, site, worked_on};
-use span_core::{FieldValue, Kind, Level, LevelFilter};
-use span_dispatch::{Request, WhichParent};
+use span_core::{FieldValue, Kind, Level, LevelFilter, TraceError};
+use span_dispatch::{Dispatch, Request, WhichParent};
 use span_fmt::{Form, LinesForm, Stream};
-use span_layers::Observer;
-use span_registry::Registry;
-use span_stacks::LayerExt;
+use span_layers::{Layer, Observer};
+use span_registry::{Registry, Subscriber};
+use span_stacks::{LayerExt, Layered};
 use span_stream::{JsonForm, Painted, Stamped, TimeStyle, Uptime, Utc, write_time};
 use span_times::{Counted, Now};
 use std::alloc::Global;
@@ -197,20 +197,41 @@ const ESCAPED: &str = concat!(
     "\n"
 );
 
-/// What a form writes of one event with such texts.
-fn written_of_acting<F: Form<Registry> + Drop>(alloc: Global, form: F) -> Result<Vec<u8>, Fail> {
-    let bytes: Vec<u8> = Vec::new(alloc);
-    let layer = Observer::new(Stream::new(form, bytes));
-    let mut dispatch = in_use(alloc, Registry::new(alloc), layer)?;
+/// Puts a stack in use, has it serve one event with such texts, and gives it back.
+fn sent<S: Subscriber + Drop>(alloc: Global, stack: S) -> Result<S, TraceError>
+    requires { S.usable stack }
+{
     let said = Request::Event {
         lane: LANE,
         metadata: site(4, "said", "app", Level::WARN, Kind::EVENT),
         parent: WhichParent::Root,
         values: ACTING,
     };
+    let mut dispatch = Dispatch::new(alloc, stack);
     dispatch.serve(alloc, &[said])?;
+    Ok(dispatch.into_stack())
+}
+
+/// Puts a layer on a stack, has that serve the event, and gives it back.
+fn sent_on<S: Subscriber + Drop, L: Layer<S> + Drop>(
+    alloc: Global,
+    stack: S,
+    layer: L,
+) -> Result<Layered<L, S>, TraceError>
+    requires stack { S.usable stack }
+    requires layer { L.usable layer }
+{
+    let made = put(stack, layer)?;
+    sent(alloc, made)
+}
+
+/// What a form writes of the event.
+fn written_of_acting<F: Form<Registry> + Drop>(alloc: Global, form: F) -> Result<Vec<u8>, Fail> {
+    let bytes: Vec<u8> = Vec::new(alloc);
+    let layer = Observer::new(Stream::new(form, bytes));
+    let stack = sent_on(alloc, Registry::new(alloc), layer)?;
     let mut copy = Vec::new(alloc);
-    copy.extend_from_slice(dispatch.stack().outer().observer().writer())?;
+    copy.extend_from_slice(stack.outer().observer().writer())?;
     Ok(copy)
 }
 
